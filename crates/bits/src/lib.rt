@@ -1,0 +1,6 @@
+//! The bit layer: numbers of a few bits, packed without gaps, most significant bit first.
+pub mod cursor;
+pub mod fault;
+pub mod told;
+pub mod width;
+mod window;

@@ -1,0 +1,41 @@
+//! A window of three bytes: a field of at most 12 bits always lies within one.
+ghost use Prim.Native.Nat.{ℕ, _+_, _-_, _*_, _<_, _≤_, _^_};
+ghost use Rattle.bits.specs.Bits.{spelled};
+ghost use lib.ListN.{length, getD};
+ghost use mathlib.Core.Path.{_≡_};
+
+/// The mask of so many bits: two to that power, less one.
+pub(crate) fn mask(bits: usize) -> u32
+    requires { ⌜ bits ≤ 12 ⌝ }
+    ensures { λ r. ⌜ r ≡ 2 ^ bits - 1 ⌝ }
+{
+    (1 << bits) - 1
+}
+
+/// The byte at an index, or 0 past the end.
+fn byte(bytes: &[u8], index: usize) -> u32
+    ensures { λ r. ⌜ r ≡ getD (now (bytes .entry)) index 0 ⌝ }
+{
+    if index < bytes.len() {
+        u32::from(bytes[index])
+    } else {
+        0
+    }
+}
+
+/// The three bytes from an index on as one number, with zeros past the end.
+fn window(bytes: &[u8], first: usize) -> u32
+    requires { ⌜ first < 2 ^ 62 ⌝ }
+    ensures { λ r. ⌜ r ≡ spelled (now (bytes .entry)) (8 * first) 24 ⌝ }
+{
+    byte(bytes, first) << 16 | byte(bytes, first + 1) << 8 | byte(bytes, first + 2)
+}
+
+/// The number that so many bits from a place on spell.
+pub(crate) fn cut(bytes: &[u8], place: usize, bits: usize) -> u16
+    requires { ⌜ bits ≤ 12 ⌝ }
+    ensures { λ r. ⌜ r ≡ spelled (now (bytes .entry)) place bits ⌝ }
+{
+    let shift = 24 - place % 8 - bits;
+    (window(bytes, place / 8) >> shift & mask(bits)) as u16
+}

@@ -1,0 +1,6 @@
+mod Fields
+mod Files
+mod Filling
+mod Layouts
+mod Many
+mod Padded

@@ -1,0 +1,4 @@
+pub mod Faults
+pub mod Room
+pub mod Lines
+pub mod Report
