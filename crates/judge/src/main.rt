@@ -1,6 +1,6 @@
 //! Reads a recording from standard input, and writes the verdict on it to standard output, in one line.
 ghost use Prim.Native.Nat.{_≤_};
-ghost use Rattle.judge.specs.Judge.{refusal};
+ghost use Rattle.judge.specs.Judge.{recordLeft, refusal};
 ghost use Rattle.recording.specs.Reading.{decode};
 ghost use Rattle.std.specs.Results.{Cases};
 ghost use Rattle.std.specs.Vec.{made};
@@ -41,7 +41,8 @@ fn fill(input: &mut impl Read, buffer: &mut [u8]) -> io::Result<usize>
 
 /// Reads a recording and judges it. There is no bank yet, so no station has a lane, and nothing is accepted.
 fn judge(bytes: &[u8], recording: &mut Recording) -> Result<Verdict, JudgeFault>
-    ensures { λ r. ⌜ Cases r (λ _. ⊥) (λ fault. judgeTold fault ≡ refusal (decode (now (bytes .entry)))) ⌝ }
+    ensures verdict { λ r. ⌜ Cases r (λ _. ⊥) (λ fault. judgeTold fault ≡ refusal (decode (now (bytes .entry)))) ⌝ }
+    ensures recording { λ _. ⌜ now (recording .exit) ≡ recordLeft (decode (now (bytes .entry))) ⌝ }
 {
     read(bytes, recording)?;
     Err(JudgeFault::NoLane { station: 0 })
@@ -49,7 +50,8 @@ fn judge(bytes: &[u8], recording: &mut Recording) -> Result<Verdict, JudgeFault>
 
 /// The verdict on a recording.
 fn verdict_on(bytes: &[u8], recording: &mut Recording) -> Verdict
-    ensures { λ r. ⌜ lineOf r ≡ refusedLine (refusal (decode (now (bytes .entry)))) ⌝ }
+    ensures verdict { λ r. ⌜ lineOf r ≡ refusedLine (refusal (decode (now (bytes .entry)))) ⌝ }
+    ensures recording { λ _. ⌜ now (recording .exit) ≡ recordLeft (decode (now (bytes .entry))) ⌝ }
 {
     match judge(bytes, recording) {
         Ok(verdict) => verdict,
@@ -68,3 +70,6 @@ fn main(rt: LibcRuntime) -> io::Result<()> {
         Err(_) => unreachable(),
     }
 }
+
+#[cfg(test)]
+mod tests;

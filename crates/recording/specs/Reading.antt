@@ -20,7 +20,7 @@ use Rattle.recording.specs.declared.record.EventKind.{EventKind}
 use Rattle.recording.specs.declared.record.EventKind.the-variants.{PostCalled, DrawCalled, PostAnswered, DrawAnswered, DrawEmpty}
 use Rattle.recording.specs.declared.record.Recording.{Recording}
 use Rattle.recording.specs.Layout.{IsFile, gap}
-use Rattle.recording.specs.Record.{Limits, allEntries, carries, event, mostCall, mostCode, mostEntries, mostEvents, mostOrder, mostStations, noEvent, padded}
+use Rattle.recording.specs.Record.{Limits, allEntries, carries, event, mostCall, mostCode, mostEntries, mostEvents, mostKind, mostOrder, mostStations, noEvent, padded}
 
 -- what was read and the bit after it, or the fault
 abbrev pub Reading : Type 0 → Type 0
@@ -65,7 +65,7 @@ kindOf k = cond (eqb k 0) PostCalled (cond (eqb k 1) DrawCalled (cond (eqb k 2) 
 -- kind, station, and the order where the kind carries one
 unfoldable pub eventAt : List ℕ → ℕ → ℕ → Reading Event
 eventAt bs stations p =
-    andThen (fieldAt bs p 3 0 4) (λ kind.
+    andThen (fieldAt bs p 3 0 mostKind) (λ kind.
     andThen (fieldAt bs (kind .1) 3 0 (stations - 1)) (λ station.
     cond (carries (kindOf (kind .0)))
     (andThen (fieldAt bs (station .1) 12 0 mostOrder) (λ order. Ok (event (kindOf (kind .0)) (station .0) (order .0), order .1)))

@@ -9,9 +9,13 @@ use Rattle.recording.specs.declared.record.EventKind.the-variants.{PostCalled,
 use Rattle.recording.specs.declared.record.Event.{Event}
 use Rattle.recording.specs.declared.record.Recording.{Recording}
 
--- the highest code, the most stations, events, entries of one line-up and entries of all, the highest order and call number
+-- the highest code and number of a kind, the most stations, events, entries of one line-up and entries of all, the
+-- highest order and call number
 abbrev pub mostCode : ℕ
 mostCode = 3
+
+abbrev pub mostKind : ℕ
+mostKind = 4
 
 abbrev pub mostStations : ℕ
 mostStations = 8

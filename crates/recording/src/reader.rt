@@ -20,6 +20,7 @@ use crate::record::MOST_CALL;
 use crate::record::MOST_CODE;
 use crate::record::MOST_ENTRIES;
 use crate::record::MOST_EVENTS;
+use crate::record::MOST_KIND;
 use crate::record::MOST_ORDER;
 use crate::record::MOST_STATIONS;
 use crate::record::Recording;
@@ -99,7 +100,7 @@ fn read_event(cursor: &mut BitCursor, stations: u16) -> Result<Event, ReadFault>
         (λ v. eventAt (now (now (cursor .entry) .bytes)) stations (now (cursor .entry) .place) ≡ Ok (v, now (cursor .exit) .place))
         (λ e. eventAt (now (now (cursor .entry) .bytes)) stations (now (cursor .entry) .place) ≡ Err (readTold e)) ⌝ }
 {
-    let code = field(cursor, Width::Three, 0, 4)?;
+    let code = field(cursor, Width::Three, 0, MOST_KIND)?;
     let station = field(cursor, Width::Three, 0, stations - 1)?;
     let kind = kind_of(code);
     let order = if kind.carries_order() {

@@ -4,6 +4,9 @@ ghost use mathlib.Core.Path.{_≡_};
 /// The highest code of a kind of lane.
 pub const MOST_CODE: u16 = 3;
 
+/// The highest number of an event's kind.
+pub const MOST_KIND: u16 = 4;
+
 /// The highest order.
 pub const MOST_ORDER: u16 = 4095;
 
@@ -22,11 +25,11 @@ pub const MOST_ENTRIES: usize = 512;
 /// The most entries that all line-ups of a recording have together.
 pub const ALL_ENTRIES: usize = 4096;
 
-/// What an event tells. A station (a thread, such as the wheel or the winch) calls a post or a draw, and later that call
-/// is answered.
+/// What an event tells. A station (a thread of the run, such as the wheel or the winch) calls a post, which puts an order
+/// (a numbered value) into the store, or a draw, which takes one out; later the call is answered.
 #[derive(Clone, Copy)]
 pub enum EventKind {
-    /// A post of an order (a numbered value) is called. Carries the order.
+    /// A post of an order is called. Carries the order.
     PostCalled,
     /// A draw is called.
     DrawCalled,
@@ -73,11 +76,13 @@ pub struct Event {
     pub order: u16,
 }
 
-/// A recording of a store's run: its events, and for each station a line-up, the sequence in which that station's calls
-/// are said to have taken effect (a proposed linearization). Places that are not used hold zero.
+/// A recording of a store's run: its events, and for each station a line-up, which is a sequence of calls that claims to be
+/// a linearization of that station's part of the run: its posts, the draws that gave its orders, and the empty draws.
+/// Places that are not used hold zero.
 #[derive(Drop)]
 pub struct Recording {
-    /// The kind of lane that the run was made over: 1 queue, 2 stack, 3 pool, 0 any other rule.
+    /// The kind of lane (the station's own part of the store, which holds its orders until they are drawn) that the run
+    /// was made over: 1 queue, 2 stack, 3 pool, 0 any other rule.
     pub code: u16,
     /// How many stations there are.
     pub stations: u16,

@@ -1,0 +1,102 @@
+//! Files and the lines that are told of them.
+use super::*;
+use std::test::*;
+
+/// A post of 5 at the only station, answered, and a draw that gave 5; the line-up names both calls.
+const SAMPLE: [u8; 13] = [
+    0x11,
+    0x10,
+    0x08,
+    0x00,
+    0x02,
+    0xA0,
+    0x43,
+    0x00,
+    0x0A,
+    0x01,
+    0x00,
+    0x00,
+    0x20,
+];
+
+/// Checks that the report on these bytes is that line.
+fn tells(bytes: &[u8], expected: &[u8]) -> Result<(), Fail> {
+    let mut recording = Recording::zero();
+    let mut line = [0; LONGEST];
+    match report(verdict_on(bytes, &mut recording), &mut line) {
+        Ok(count) => check(&line[0..count] == expected),
+        Err(_) => Err(Fail::new("the line is too long")),
+    }
+}
+
+#[test]
+fn reads_the_sample() -> Result<(), Fail> {
+    let mut recording = Recording::zero();
+    check(read(&SAMPLE, &mut recording).is_ok())?;
+    check(recording.code == 1 && recording.stations == 1 && recording.count == 4)?;
+    let events = &recording.events;
+    check(events[0].kind.code() == 0 && events[0].station == 0 && events[0].order == 5)?;
+    check(events[1].kind.code() == 2 && events[1].station == 0 && events[1].order == 0)?;
+    check(events[2].kind.code() == 1 && events[2].station == 0 && events[2].order == 0)?;
+    check(events[3].kind.code() == 3 && events[3].station == 0 && events[3].order == 5)?;
+    check(recording.lengths[0] == 2 && recording.entries[0] == 0 && recording.entries[1] == 1)
+}
+
+#[test]
+fn tells_where_the_bytes_end() -> Result<(), Fail> {
+    tells(b"", b"refused 1 bit 0\n")?;
+    tells(&[0x11], b"refused 1 bit 8\n")?;
+    tells(&[0x11, 0x10], b"refused 1 bit 12\n")?;
+    tells(&[0x11, 0x10, 0x02], b"refused 1 bit 23\n")?;
+    tells(&[0x11, 0x10, 0x02, 0x00], b"refused 1 bit 29\n")?;
+    tells(&SAMPLE[0..12], b"refused 1 bit 90\n")
+}
+
+#[test]
+fn tells_what_is_out_of_range() -> Result<(), Fail> {
+    tells(&[0x21], b"refused 2 bit 0\n")?;
+    tells(&[0x14], b"refused 2 bit 4\n")?;
+    tells(&[0x11, 0x00], b"refused 2 bit 8\n")?;
+    tells(&[0x11, 0x90], b"refused 2 bit 8\n")?;
+    tells(&[0x11, 0x18, 0x02], b"refused 2 bit 12\n")?;
+    tells(&[0x11, 0x10, 0x03, 0x40], b"refused 2 bit 23\n")?;
+    tells(&[0x11, 0x10, 0x02, 0x48], b"refused 2 bit 26\n")?;
+    tells(&[0x11, 0x10, 0x01, 0x00, 0x80], b"refused 2 bit 23\n")
+}
+
+#[test]
+fn tells_what_follows_the_last_field() -> Result<(), Fail> {
+    tells(&[0x11, 0x10, 0x00, 0x00, 0x40], b"refused 3 bit 33\n")?;
+    tells(&[0x11, 0x10, 0x00, 0x00, 0x01, 0x00], b"refused 3 bit 39\n")?;
+    tells(&[0x11, 0x10, 0x00, 0x00, 0x00, 0x00], b"refused 3 bit 40\n")
+}
+
+#[test]
+fn has_no_lane_for_what_it_read() -> Result<(), Fail> {
+    tells(&SAMPLE, b"refused 10 station 0 entry 0\n")?;
+    tells(
+        &[0x10, 0x10, 0x00, 0x00, 0x00],
+        b"refused 10 station 0 entry 0\n",
+    )
+}
+
+/// 1,024 events that carry an order, and eight line-ups of 512 entries; zero but for the header and the lengths.
+#[test]
+fn reads_the_largest_file() -> Result<(), Fail> {
+    let mut bytes = [0; 6925];
+    bytes[0] = 0x11;
+    bytes[1] = 0x88;
+    bytes[2306] = 0x01;
+    bytes[2884] = 0x40;
+    bytes[3461] = 0x10;
+    bytes[4038] = 0x04;
+    bytes[4615] = 0x01;
+    bytes[5193] = 0x40;
+    bytes[5770] = 0x10;
+    bytes[6347] = 0x04;
+    let mut recording = Recording::zero();
+    check(read(&bytes, &mut recording).is_ok())?;
+    check(recording.stations == 8 && recording.count == 1024)?;
+    check(recording.lengths[0] == 512 && recording.lengths[7] == 512)?;
+    tells(&bytes[0..6924], b"refused 1 bit 55390\n")
+}
