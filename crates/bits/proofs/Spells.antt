@@ -24,7 +24,7 @@ spelled-one bs p = rw add-zero (zero-add (bitAt bs p))
 -- a field of a + b bits is one of a bits before one of b
 pub spelled-split : (bs : List ℕ) (p a b : ℕ) → spelled bs p (a + b) ≡ spelled bs p a * 2 ^ b + spelled bs (p + a) b
 unfolding spelled
-spelled-split bs p a zero = rw add-zero (omega arith)
+spelled-split bs p a zero = rw (add-zero a) (omega arith)
 spelled-split bs p a (suc b) =
     let e = spelled-split bs p a b in
     rw (add-suc a b, pow-suc 2 b, e, add-assoc p a b, ← mul-assoc (spelled bs p a) (2 ^ b) 2) (omega arith)

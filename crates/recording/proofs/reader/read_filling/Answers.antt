@@ -20,7 +20,7 @@ pub returns-then-filler-ne0 : need.returns-then-filler-ne0
 returns-then-filler-ne0 c =
     let h = c .in-Continue-filler .ensures tt in
     let n : c .loop-cursor .cursor .place % 8 ≡ 0 → ⊥ = (λ e. c .loop-cursor-test .taken (rw (c .place .ensures) e)) in
-    c .loop-cursor .inv .1 ∙ rw (c .place-bit .ensures) (filling-bad _ _ n (λ e. c .if-filler-ne0 .taken (h .result .0 ∙ e)))
+    rw (c .loop-cursor .inv .1, c .place-bit .ensures) (filling-bad _ _ n (λ e. c .if-filler-ne0 .taken (rw (h .result .0) e)))
 
 pub loop-cursor-less : need.loop-cursor-less
 loop-cursor-less c =
@@ -33,14 +33,14 @@ loop-cursor-again c =
     let h = c .in-Continue-filler .ensures tt in
     let n : c .loop-cursor .cursor .place % 8 ≡ 0 → ⊥ = (λ e. c .loop-cursor-test .taken (rw (c .place .ensures) e)) in (
       h .bytes ∙ c .loop-cursor .inv .0,
-      c .loop-cursor .inv .1 ∙ rw (h .bytes, h .result .1) (filling-more _ _ n (sym (h .result .0) ∙ c .if-filler-ne0 .left)),
+      rw (c .loop-cursor .inv .1, h .bytes, h .result .1) (filling-more _ _ n (rw (h .result .0) at (c .if-filler-ne0 .left))),
       rw (h .result .1) (let g = gap-more (c .loop-cursor .cursor .place) n in let i = c .loop-cursor .inv .2 in omega arith),
     )
 
 pub returns-then-not-at-end : need.returns-then-not-at-end
 returns-then-not-at-end c =
     let n : c .loop-cursor .cursor .place % 8 ≡ 0 = sym (ap (λ x. x % 8) (c .place .ensures)) ∙ c .loop-cursor-test .left in
-    c .loop-cursor .inv .1 ∙ rw (c .place-then-not-at-end .ensures) (filling-over _ _ n (sym (c .at-end .ensures) ∙ c .if-not-at-end .taken))
+    rw (c .loop-cursor .inv .1, c .place-then-not-at-end .ensures) (filling-over _ _ n (sym (c .at-end .ensures) ∙ c .if-not-at-end .taken))
 
 pub returns : need.returns
 returns c =
