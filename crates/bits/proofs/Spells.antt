@@ -1,5 +1,5 @@
 -- Facts about the bits of a list of bytes and the numbers that they spell.
-use mathlib.Core.Path.{_≡_, refl, sym, ap, _∙_}
+use mathlib.Core.Path.{_≡_, sym, _∙_}
 use mathlib.Core.List.{List}
 use Prim.Native.Nat.{ℕ, zero, suc, _+_, _-_, _*_, _/_, _%_, _^_, _<_, _≤_}
 use native.Mathlib.Nat.{add-zero, add-suc, add-assoc, div-eq-of-lt, div-one, mul-assoc, pow-suc, zero-add}

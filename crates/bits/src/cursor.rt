@@ -1,4 +1,4 @@
-ghost use Prim.Native.Nat.{ℕ, _+_, _*_, _<_, _≤_};
+ghost use Prim.Native.Nat.{_+_, _*_, _<_, _≤_};
 ghost use Rattle.bits.specs.Bits.{reach, spelled};
 ghost use Rattle.bits.specs.Told.{bitTold, told};
 ghost use Rattle.bits.specs.Widths.{bitsOf};

@@ -1,7 +1,7 @@
 //! A window of three bytes: a field of at most 12 bits always lies within one.
-ghost use Prim.Native.Nat.{ℕ, _+_, _-_, _*_, _<_, _≤_, _^_};
+ghost use Prim.Native.Nat.{_+_, _-_, _*_, _<_, _≤_, _^_};
 ghost use Rattle.bits.specs.Bits.{spelled};
-ghost use lib.ListN.{length, getD};
+ghost use lib.ListN.{getD};
 ghost use mathlib.Core.Path.{_≡_};
 
 /// The mask of so many bits: two to that power, less one.

@@ -1,13 +1,13 @@
 -- A file is taken exactly when it is the layout of a recording within the limits.
 use mathlib.Core.Path.{_≡_, refl, sym, ap, subst, _∙_}
 use mathlib.Core.List.{List, [], _∷_, _++_, map, append-assoc}
-use mathlib.Core.Logic.{_⊎_, inl, inr}
+use mathlib.Core.Logic.{inl, inr}
 use Prim.Native.Nat.{ℕ, zero, suc, _+_, _-_, _*_, _<_, _≤_}
 use native.Mathlib.Omega.{arith}
 use native.Mathlib.Nat.{add-zero}
 use lib.Dec.{eqb, ltb}
 use mathlib.Core.Bool.{cond}
-use lib.ListN.{length, take, drop, length-append, length-take, length-drop, take-append-drop}
+use lib.ListN.{length, take, drop, length-append, length-take, length-drop}
 use lib.Seq.{take-add}
 use Rattle.std.specs.Joined.{joined}
 use Rattle.std.proofs.shelf.Lists.{take-at, drop-at, length-map}
@@ -22,8 +22,8 @@ use Rattle.bits.specs.declared.told.Told.{Told}
 use Rattle.recording.specs.declared.reader.Header.{Header}
 use Rattle.recording.specs.declared.record.Event.{Event}
 use Rattle.recording.specs.declared.record.Recording.{Recording}
-use Rattle.recording.specs.Layout.{Field, bits, span, Laid, headerFields, eventFields, lineupFields, recordFields, gap, IsFile}
-use Rattle.recording.specs.Reading.{Faulty, Holds, andThen, decode, eventAt, fieldAt, fillingAt, headerAt, headerOf, lineupAt, manyAt, recordOf}
+use Rattle.recording.specs.Layout.{bits, span, Laid, headerFields, eventFields, lineupFields, recordFields, gap, IsFile}
+use Rattle.recording.specs.Reading.{Faulty, Holds, decode, eventAt, fillingAt, headerAt, headerOf, lineupAt, manyAt, recordOf}
 use Rattle.recording.specs.Record.{All, EventOk, Limits, allEntries, cut, lineupsOf, mostCall, mostCode, mostEntries, mostEvents, mostStations, noEvent, padded, total, usedEntries, usedEvents, usedLengths}
 use Rattle.recording.proofs.Fields.{field-within}
 use Rattle.recording.proofs.Layouts.{LineupOk, Stands, event-back, event-stands, field-back, field-stands, laid-parts, lineup-back, lineup-stands, many-back, many-stands, ok-parts, same-ok, span-append, stands-append}

@@ -1,5 +1,5 @@
 -- Fields that stand in bytes one after the other.
-use mathlib.Core.Path.{_≡_, refl, sym, ap, subst, _∙_}
+use mathlib.Core.Path.{_≡_, refl, sym, ap, subst}
 use mathlib.Core.List.{List, [], _∷_, _++_}
 use mathlib.Core.Bool.{Bool, true, false, cond}
 use Prim.Native.Nat.{ℕ, zero, suc, _+_, _-_, _*_, _<_, _≤_}
@@ -9,7 +9,6 @@ use lib.Dec.{lit≤}
 use lib.ListN.{length}
 use Rattle.std.specs.Joined.{joined}
 use Rattle.std.proofs.shelf.Tests.{both-ways}
-use Rattle.std.proofs.shelf.Ways.{tells}
 use Rattle.std.specs.declared.result.Result.{Result}
 use Rattle.std.specs.declared.result.Result.the-variants.{Ok, Err}
 use Rattle.bits.specs.Bits.{spelled}
@@ -20,7 +19,7 @@ use Rattle.recording.specs.declared.record.EventKind.the-variants.{PostCalled,
 use Rattle.recording.specs.Layout.{Field, bits, span, Laid, eventFields, entryFields, lineupFields}
 use Rattle.recording.specs.Reading.{Reading, andThen, entryAt, eventAt, fieldAt, kindOf, lineupAt, manyAt}
 use Rattle.recording.specs.Record.{All, EventOk, carries, codeOf, event, mostCall, mostEntries, mostOrder}
-use Rattle.recording.proofs.Fields.{Within, field-in, field-within}
+use Rattle.recording.proofs.Fields.{field-in, field-within}
 
 pub span-append : (fs gs : List Field) → span (fs ++ gs) ≡ span fs + span gs
 unfolding span

@@ -1,7 +1,7 @@
 -- What the bytes of a file hold, field by field, or the first fault in the file's sequence: a field is first completed
 -- (1, at its first bit, where the bytes end before), then its range is tried (2, at its first bit), then the next.
 use mathlib.Core.Path.{_≡_}
-use mathlib.Core.List.{List, [], _∷_}
+use mathlib.Core.List.{List, [], _∷_, map}
 use mathlib.Core.Bool.{cond, _&&_}
 use Prim.Native.Nat.{ℕ, zero, suc, _+_, _-_, _*_}
 use lib.Dec.{eqb, leb, ltb}
@@ -9,7 +9,6 @@ use lib.ListN.{length}
 use Rattle.std.specs.Joined.{joined}
 use Rattle.std.specs.declared.result.Result.{Result}
 use Rattle.std.specs.declared.result.Result.the-variants.{Ok, Err}
-use mathlib.Core.List.{map}
 use Rattle.bits.specs.Bits.{bitAt, spelled}
 use Rattle.bits.specs.Told.{told}
 use Rattle.bits.specs.declared.told.Place.the-variants.{AtBit}

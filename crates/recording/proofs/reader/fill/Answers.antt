@@ -1,6 +1,6 @@
 use native.Mathlib.Omega.{arith}
 use native.Mathlib.Nat.{sub-zero}
-use mathlib.Core.Path.{_≡_, refl, sym, ap, _∙_}
+use mathlib.Core.Path.{_≡_, ap, _∙_}
 use mathlib.Core.List.{List, _++_}
 use Prim.Native.Nat.{ℕ, _≤_}
 use denote.Ref.{now}
@@ -8,7 +8,7 @@ use lib.ListN.{length, take, drop, replicate, length-take, length-replicate}
 use Rattle.std.proofs.shelf.Results.{err-from-errBy, cases-weaker}
 use Rattle.std.specs.declared.result.Result.the-variants.{Ok, Err}
 use Rattle.recording.specs.Faults.{readTold}
-use Rattle.recording.specs.Reading.{decode, eventAt, headerAt, lineupAt, manyAt}
+use Rattle.recording.specs.Reading.{decode, headerAt}
 use Rattle.recording.specs.Record.{mostEvents, noEvent, padded}
 use Rattle.recording.specs.declared.record.Event.{Event}
 use Rattle.recording.proofs.Files.{faulty, holds}

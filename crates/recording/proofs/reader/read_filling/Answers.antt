@@ -1,8 +1,7 @@
 use native.Mathlib.Omega.{arith}
-use mathlib.Core.Path.{_≡_, refl, sym, ap, _∙_}
-use Prim.Native.Nat.{_+_, _%_, _*_, _<_, _≤_}
+use mathlib.Core.Path.{_≡_, sym, ap, _∙_}
+use Prim.Native.Nat.{_%_}
 use denote.Ref.{now}
-use lib.ListN.{length}
 use Rattle.recording.proofs.Filling.{gap-more, gap-most, filling-more, filling-bad, filling-over, filling-done}
 use Rattle.recording.proofs.reader.read_filling.Needs as need
 

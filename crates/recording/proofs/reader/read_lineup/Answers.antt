@@ -1,12 +1,10 @@
 use native.Mathlib.Omega.{arith}
 use native.Mathlib.Nat.{sub-zero}
-use mathlib.Core.Path.{_≡_, refl, sym, ap, _∙_}
+use mathlib.Core.Path.{_≡_, _∙_}
 use denote.Ref.{now}
-use lib.ListN.{length, take, drop, length-take}
+use lib.ListN.{length, take, length-take}
 use Rattle.std.proofs.shelf.Results.{err-from-errBy}
-use Rattle.std.specs.declared.result.Result.the-variants.{Ok, Err}
-use Rattle.recording.specs.Faults.{readTold}
-use Rattle.recording.specs.Reading.{entryAt, lineupAt, manyAt}
+use Rattle.recording.specs.Reading.{lineupAt}
 use Rattle.recording.proofs.reader.read_lineup.Needs as need
 
 pub returns-in-Break-length : need.returns-in-Break-length
