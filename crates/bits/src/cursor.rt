@@ -56,14 +56,13 @@ impl<'a> BitCursor<'a> {
             × (reach (now (now (self .entry) .bytes)) < now (self .entry) .place + bitsOf width)) ⌝ }
     {
         let bits = width.bits();
-        let Some(end) = self.place.checked_add(bits) else {
-            return Err(BitFault::Ends { bit: self.place });
-        };
-        if (end - 1) / 8 >= self.bytes.len() {
-            return Err(BitFault::Ends { bit: self.place });
+        match self.place.checked_add(bits) {
+            Some(end) if (end - 1) / 8 < self.bytes.len() => {
+                let value = cut(self.bytes, self.place, bits);
+                self.place = end;
+                Ok(value)
+            }
+            _ => Err(BitFault::Ends { bit: self.place }),
         }
-        let value = cut(self.bytes, self.place, bits);
-        self.place = end;
-        Ok(value)
     }
 }

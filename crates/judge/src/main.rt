@@ -19,13 +19,13 @@ use verdict::report::LONGEST;
 use verdict::report::report;
 use verdict::verdict::Verdict;
 
-/// The most bytes that are read: more than any recording has, so that what follows a recording is seen.
-const MOST_INPUT: usize = 8193;
+/// The most bytes that are read: more than any file has, so that what follows a file is seen.
+const MAX_INPUT: usize = 8193;
 
 /// Reads until the input ends or the buffer is full, and says how many bytes were read.
 /// A read may give fewer bytes than there are to come, so only a read of no byte is the end.
 /// A read that a signal interrupts is an error of the kind `Interrupted`, and is handed on as any other error.
-fn fill(input: &mut impl Read, buffer: &mut [u8]) -> io::Result<usize>
+fn read_input(input: &mut impl Read, buffer: &mut [u8]) -> io::Result<usize>
     ensures { λ r. ⌜ made r (λ n. n ≤ length (now (buffer .entry))) ⌝ }
 {
     let mut filled = 0;
@@ -39,7 +39,7 @@ fn fill(input: &mut impl Read, buffer: &mut [u8]) -> io::Result<usize>
     Ok(filled)
 }
 
-/// Reads a recording and judges it. There is no bank yet, so no station has a lane, and nothing is accepted.
+/// Reads a file and judges its recording. There is no bank yet, so no station has a lane, and nothing is accepted.
 fn judge(bytes: &[u8], recording: &mut Recording) -> Result<Verdict, JudgeFault>
     ensures verdict { λ r. ⌜ Cases r (λ _. ⊥) (λ fault. judgeTold fault ≡ refusal (decode (now (bytes .entry)))) ⌝ }
     ensures recording { λ _. ⌜ now (recording .exit) ≡ recordLeft (decode (now (bytes .entry))) ⌝ }
@@ -48,7 +48,7 @@ fn judge(bytes: &[u8], recording: &mut Recording) -> Result<Verdict, JudgeFault>
     Err(JudgeFault::NoLane { station: 0 })
 }
 
-/// The verdict on a recording.
+/// The verdict on a file.
 fn verdict_on(bytes: &[u8], recording: &mut Recording) -> Verdict
     ensures verdict { λ r. ⌜ lineOf r ≡ refusedLine (refusal (decode (now (bytes .entry)))) ⌝ }
     ensures recording { λ _. ⌜ now (recording .exit) ≡ recordLeft (decode (now (bytes .entry))) ⌝ }
@@ -60,8 +60,8 @@ fn verdict_on(bytes: &[u8], recording: &mut Recording) -> Verdict
 }
 
 fn main(rt: LibcRuntime) -> io::Result<()> {
-    let mut input = [0; MOST_INPUT];
-    let size = fill(&mut rt.stdin(), &mut input)?;
+    let mut input = [0; MAX_INPUT];
+    let size = read_input(&mut rt.stdin(), &mut input)?;
     let mut recording = Recording::zero();
     let verdict = verdict_on(&input[0..size], &mut recording);
     let mut line = [0; LONGEST];

@@ -35,10 +35,10 @@ fn reads_the_sample() -> Result<(), Fail> {
     check(read(&SAMPLE, &mut recording).is_ok())?;
     check(recording.code == 1 && recording.stations == 1 && recording.count == 4)?;
     let events = &recording.events;
-    check(events[0].kind.code() == 0 && events[0].station == 0 && events[0].order == 5)?;
-    check(events[1].kind.code() == 2 && events[1].station == 0 && events[1].order == 0)?;
-    check(events[2].kind.code() == 1 && events[2].station == 0 && events[2].order == 0)?;
-    check(events[3].kind.code() == 3 && events[3].station == 0 && events[3].order == 5)?;
+    check(events[0].kind.number() == 0 && events[0].station == 0 && events[0].order == 5)?;
+    check(events[1].kind.number() == 2 && events[1].station == 0 && events[1].order == 0)?;
+    check(events[2].kind.number() == 1 && events[2].station == 0 && events[2].order == 0)?;
+    check(events[3].kind.number() == 3 && events[3].station == 0 && events[3].order == 5)?;
     check(recording.lengths[0] == 2 && recording.entries[0] == 0 && recording.entries[1] == 1)
 }
 
@@ -99,4 +99,21 @@ fn reads_the_largest_file() -> Result<(), Fail> {
     check(recording.stations == 8 && recording.count == 1024)?;
     check(recording.lengths[0] == 512 && recording.lengths[7] == 512)?;
     tells(&bytes[0..6924], b"refused 1 bit 55390\n")
+}
+
+#[test]
+fn goes_on_after_a_short_read() -> Result<(), Fail> {
+    let mut buffer = [0; 8];
+    let first: &[u8] = b"ab";
+    let second: &[u8] = b"cd";
+    check_eq(read_input(&mut first.chain(second), &mut buffer)?, 4)?;
+    check_eq(buffer, *b"abcd\0\0\0\0")
+}
+
+#[test]
+fn reads_no_more_than_its_limit() -> Result<(), Fail> {
+    let bytes = [7; 9000];
+    let mut source: &[u8] = &bytes;
+    let mut input = [0; MAX_INPUT];
+    check_eq(read_input(&mut source, &mut input)?, 8193)
 }

@@ -24,7 +24,7 @@ use Rattle.recording.specs.declared.record.Event.{Event}
 use Rattle.recording.specs.declared.record.Recording.{Recording}
 use Rattle.recording.specs.Layout.{bits, span, Laid, headerFields, eventFields, lineupFields, recordFields, gap, IsFile}
 use Rattle.recording.specs.Reading.{Faulty, Holds, decode, eventAt, fillingAt, headerAt, headerOf, lineupAt, manyAt, recordOf}
-use Rattle.recording.specs.Record.{All, EventOk, Limits, allEntries, cut, lineupsOf, mostCall, mostCode, mostEntries, mostEvents, mostStations, noEvent, padded, total, usedEntries, usedEvents, usedLengths}
+use Rattle.recording.specs.Record.{All, EventOk, Limits, allEntries, parts, lineupsOf, maxCall, maxCode, maxEntries, maxEvents, maxStations, noEvent, padded, total, usedEntries, usedEvents, usedLengths}
 use Rattle.recording.proofs.Fields.{field-within}
 use Rattle.recording.proofs.Layouts.{LineupOk, Stands, event-back, event-stands, field-back, field-stands, laid-parts, lineup-back, lineup-stands, many-back, many-stands, ok-parts, same-ok, span-append, stands-append}
 use Rattle.recording.proofs.Padded.{length-padded, take-padded}
@@ -42,56 +42,56 @@ unfolding total
 total-lengths [] = refl
 total-lengths (l ∷ ls) = let e = total-lengths ls in simp length-append (omega arith)
 
-cut-flat : (ls : List (List ℕ)) (rest : List ℕ) → cut (lengths ls) (flat ls ++ rest) ≡ ls
-unfolding cut
-cut-flat [] rest = refl
-cut-flat (l ∷ ls) rest =
+parts-flat : (ls : List (List ℕ)) (rest : List ℕ) → parts (lengths ls) (flat ls ++ rest) ≡ ls
+unfolding parts
+parts-flat [] rest = refl
+parts-flat (l ∷ ls) rest =
     let e = append-assoc l (flat ls) rest in
     let t = take-at l (flat ls ++ rest) (length l) refl in
     let d = drop-at l (flat ls ++ rest) (length l) refl in
-    rw (e, t, d) (ap (λ (x : List (List ℕ)). l ∷ x) (cut-flat ls rest))
+    rw (e, t, d) (ap (λ (x : List (List ℕ)). l ∷ x) (parts-flat ls rest))
 
-lengths-cut : (ns es : List ℕ) → total ns ≤ length es → lengths (cut ns es) ≡ ns
-unfolding cut total
-lengths-cut [] es h = refl
-lengths-cut (n ∷ ns) es h =
+lengths-parts : (ns es : List ℕ) → total ns ≤ length es → lengths (parts ns es) ≡ ns
+unfolding parts total
+lengths-parts [] es h = refl
+lengths-parts (n ∷ ns) es h =
     let a : length (take n es) ≡ n = length-take n es ∙ omega arith in
-    let b = lengths-cut ns (drop n es) (simp length-drop (omega arith)) in
+    let b = lengths-parts ns (drop n es) (simp length-drop (omega arith)) in
     rw (a, b)
 
-flat-cut : (ns es : List ℕ) → flat (cut ns es) ≡ take (total ns) es
-unfolding cut total
-flat-cut [] es = refl
-flat-cut (n ∷ ns) es = rw (take-add n (total ns) es) (ap (λ (x : List ℕ). take n es ++ x) (flat-cut ns (drop n es)))
+flat-parts : (ns es : List ℕ) → flat (parts ns es) ≡ take (total ns) es
+unfolding parts total
+flat-parts [] es = refl
+flat-parts (n ∷ ns) es = rw (take-add n (total ns) es) (ap (λ (x : List ℕ). take n es ++ x) (flat-parts ns (drop n es)))
 
-all-parts : {A : Type 0} (P : A → Type 0) (xs ys : List A) → All P (xs ++ ys) → All P xs × All P ys
+all-split : {A : Type 0} (P : A → Type 0) (xs ys : List A) → All P (xs ++ ys) → All P xs × All P ys
 unfolding All
-all-parts P [] ys h = (tt, h)
-all-parts P (x ∷ xs) ys h = let k = all-parts P xs ys (h .1) in ((h .0, k .0), k .1)
+all-split P [] ys h = (tt, h)
+all-split P (x ∷ xs) ys h = let k = all-split P xs ys (h .1) in ((h .0, k .0), k .1)
 
 all-append : {A : Type 0} (P : A → Type 0) (xs ys : List A) → All P xs → All P ys → All P (xs ++ ys)
 unfolding All
 all-append P [] ys h k = k
 all-append P (x ∷ xs) ys h k = (h .0, all-append P xs ys (h .1) k)
 
-all-lengths : (ls : List (List ℕ)) → All LineupOk ls → All (λ n. n ≤ mostEntries) (lengths ls)
+all-lengths : (ls : List (List ℕ)) → All LineupOk ls → All (λ n. n ≤ maxEntries) (lengths ls)
 unfolding All
 all-lengths [] h = tt
 all-lengths (l ∷ ls) h = (h .0 .0, all-lengths ls (h .1))
 
-all-flat : (ls : List (List ℕ)) → All LineupOk ls → All (λ c. c ≤ mostCall) (flat ls)
+all-flat : (ls : List (List ℕ)) → All LineupOk ls → All (λ c. c ≤ maxCall) (flat ls)
 unfolding All
 all-flat [] h = tt
-all-flat (l ∷ ls) h = all-append (λ c. c ≤ mostCall) l (flat ls) (h .0 .1) (all-flat ls (h .1))
+all-flat (l ∷ ls) h = all-append (λ c. c ≤ maxCall) l (flat ls) (h .0 .1) (all-flat ls (h .1))
 
-all-cut : (ns es : List ℕ) → total ns ≤ length es → All (λ n. n ≤ mostEntries) ns → All (λ c. c ≤ mostCall) (take (total ns) es) → All LineupOk (cut ns es)
-unfolding All cut total
-all-cut [] es l h k = tt
-all-cut (n ∷ ns) es l h k =
+all-parts : (ns es : List ℕ) → total ns ≤ length es → All (λ n. n ≤ maxEntries) ns → All (λ c. c ≤ maxCall) (take (total ns) es) → All LineupOk (parts ns es)
+unfolding All parts total
+all-parts [] es l h k = tt
+all-parts (n ∷ ns) es l h k =
     let t = take-add n (total ns) es in
-    let p = all-parts (λ c. c ≤ mostCall) (take n es) (take (total ns) (drop n es)) (rw t at k) in
-    let a : length (take n es) ≤ mostEntries = (let b = length-take n es in let c = h .0 in omega arith) in
-    ((a, p .0), all-cut ns (drop n es) (simp length-drop (omega arith)) (h .1) (p .1))
+    let p = all-split (λ c. c ≤ maxCall) (take n es) (take (total ns) (drop n es)) (rw t at k) in
+    let a : length (take n es) ≤ maxEntries = (let b = length-take n es in let c = h .0 in omega arith) in
+    ((a, p .0), all-parts ns (drop n es) (simp length-drop (omega arith)) (h .1) (p .1))
 
 -- ---- the filling
 
@@ -147,7 +147,7 @@ gap-whole p n h k = omega arith
 abbrev HeaderStands : List ℕ → Header × ℕ → Type 0
 HeaderStands bs y =
     Stands bs 0 (y .1) (bits 4 1 ∷ bits 4 (y .0 .code) ∷ bits 4 (y .0 .stations) ∷ bits 11 (y .0 .count) ∷ [])
-    × (y .0 .code ≤ mostCode) × (1 ≤ y .0 .stations) × (y .0 .stations ≤ mostStations) × (y .0 .count ≤ mostEvents)
+    × (y .0 .code ≤ maxCode) × (1 ≤ y .0 .stations) × (y .0 .stations ≤ maxStations) × (y .0 .count ≤ maxEvents)
 
 header-stands : (bs : List ℕ) (y : Header × ℕ) → headerAt bs 0 ≡ Ok y → HeaderStands bs y
 unfolding headerAt
@@ -174,17 +174,17 @@ header-stands bs y h =
 
 module _ (h : Header) (es : List Event) (ls : List (List ℕ)) (me : length es ≡ h .count) (ml : length ls ≡ h .stations) where
   used-events : usedEvents (recordOf h es ls) ≡ es
-  used-events = take-padded mostEvents noEvent es (h .count) me
+  used-events = take-padded maxEvents noEvent es (h .count) me
 
   used-lengths : usedLengths (recordOf h es ls) ≡ lengths ls
-  used-lengths = take-padded mostStations 0 (map (λ l. length l) ls) (h .stations) (length-map ls (λ l. length l) ∙ ml)
+  used-lengths = take-padded maxStations 0 (map (λ l. length l) ls) (h .stations) (length-map ls (λ l. length l) ∙ ml)
 
   used-entries : usedEntries (recordOf h es ls) ≡ flat ls
   used-entries = rw (used-lengths, total-lengths ls) (take-padded allEntries 0 (flat ls) (length (flat ls)) refl)
 
   used-lineups : lineupsOf (recordOf h es ls) ≡ ls
   unfolding padded
-  used-lineups = rw used-lengths (cut-flat ls _)
+  used-lineups = rw used-lengths (parts-flat ls _)
 
 module _ (bs : List ℕ) (h : Header) (p1 : ℕ) (es : List Event) (p2 : ℕ) (ls : List (List ℕ)) (p3 q : ℕ)
     (a : headerAt bs 0 ≡ Ok (h, p1)) (b : manyAt (eventAt bs (h .stations)) (h .count) p1 ≡ Ok (es, p2))
@@ -246,7 +246,7 @@ padded-long n k z xs e =
     let b = ap (λ (l : List _). length l) e in
     omega arith
 
-total-most : (ns : List ℕ) → All (λ n. n ≤ mostEntries) ns → total ns ≤ mostEntries * length ns
+total-most : (ns : List ℕ) → All (λ n. n ≤ maxEntries) ns → total ns ≤ maxEntries * length ns
 unfolding All total
 total-most [] h = omega arith
 total-most (n ∷ ns) h = let a = total-most ns (h .1) in let b = h .0 in omega arith
@@ -256,9 +256,9 @@ header-back : (bs : List ℕ) (r : Recording) → Limits r → Laid bs 0 (header
 unfolding headerAt Laid
 header-back bs r o l h =
     let a = field-back bs 0 4 1 1 1 (l .0) (omega arith) (omega arith) (omega arith) in
-    let b = field-back bs 4 4 0 mostCode (r .code) (l .1 .0) (omega arith) (omega arith) (o .code) in
-    let c = field-back bs 8 4 1 mostStations (r .stations) (l .1 .1 .0) (omega arith) (o .some) (o .stations) in
-    let d = field-back bs 12 11 0 mostEvents (r .count) (l .1 .1 .1 .0) (omega arith) (omega arith) (o .count) in
+    let b = field-back bs 4 4 0 maxCode (r .code) (l .1 .0) (omega arith) (omega arith) (o .code) in
+    let c = field-back bs 8 4 1 maxStations (r .stations) (l .1 .1 .0) (omega arith) (o .some) (o .stations) in
+    let d = field-back bs 12 11 0 maxEvents (r .count) (l .1 .1 .1 .0) (omega arith) (omega arith) (o .count) in
     rw (a, b, c, d)
 
 header-span : (r : Recording) → span (headerFields r) ≡ 23
@@ -267,10 +267,10 @@ header-span r = refl
 
 module _ (r : Recording) (o : Limits r) where
   full-events : length (usedEvents r) ≡ r .count
-  full-events = front-full mostEvents (r .count) noEvent (r .events) (o .count) (o .restEvents)
+  full-events = front-full maxEvents (r .count) noEvent (r .events) (o .count) (o .restEvents)
 
   full-lengths : length (usedLengths r) ≡ r .stations
-  full-lengths = front-full mostStations (r .stations) 0 (r .lengths) (o .stations) (o .restLengths)
+  full-lengths = front-full maxStations (r .stations) 0 (r .lengths) (o .stations) (o .restLengths)
 
   full-entries : total (usedLengths r) ≤ length (r .entries)
   full-entries =
@@ -283,13 +283,13 @@ module _ (r : Recording) (o : Limits r) where
   full-lineups : length (lineupsOf r) ≡ r .stations
   full-lineups =
       let a = length-map (lineupsOf r) (λ l. length l) in
-      let b = ap (λ (l : List ℕ). length l) (lengths-cut (usedLengths r) (r .entries) full-entries) in
+      let b = ap (λ (l : List ℕ). length l) (lengths-parts (usedLengths r) (r .entries) full-entries) in
       let c = full-lengths in
       omega arith
 
   same-record : recordOf (headerOf (r .code) (r .stations) (r .count)) (usedEvents r) (lineupsOf r) ≡ r
   same-record =
-      rw (lengths-cut (usedLengths r) (r .entries) full-entries, flat-cut (usedLengths r) (r .entries), ← o .restEvents, ← o .restLengths, ← o .restEntries)
+      rw (lengths-parts (usedLengths r) (r .entries) full-entries, flat-parts (usedLengths r) (r .entries), ← o .restEvents, ← o .restLengths, ← o .restEntries)
 
 file-decoded : (bs : List ℕ) (r : Recording) → Limits r → IsFile bs r → decode bs ≡ Ok r
 unfolding decode recordFields span
@@ -308,7 +308,7 @@ file-decoded bs r o f =
     let ha = header-back bs r o (k .0) (omega arith) in
     let hb = many-back bs (eventAt bs (r .stations)) eventFields (EventOk (r .stations)) (event-back bs (r .stations) (o .some)) es 23 (o .events) (m .0) (omega arith) in
     let hc = many-back bs (lineupAt bs) lineupFields LineupOk (lineup-back bs) ls (23 + span ev)
-    (all-cut (usedLengths r) (r .entries) (full-entries r o) (o .lengths) (o .entries)) (m .1) (omega arith) in
+    (all-parts (usedLengths r) (r .entries) (full-entries r o) (o .lengths) (o .entries)) (m .1) (omega arith) in
     let hd = filling-back bs (23 + span ev + span lu) (gap (23 + span ev + span lu)) (zero-bits bs _ _ (rw z at (f .filling))) (rw z at w) in
     let hb′ = rw (full-events r o) at hb in
     let hc′ = rw (full-lineups r o) at hc in

@@ -17,8 +17,8 @@ use Rattle.recording.specs.declared.record.Event.{Event}
 use Rattle.recording.specs.declared.record.EventKind.{EventKind}
 use Rattle.recording.specs.declared.record.EventKind.the-variants.{PostCalled, DrawCalled, PostAnswered, DrawAnswered, DrawEmpty}
 use Rattle.recording.specs.Layout.{Field, bits, span, Laid, eventFields, entryFields, lineupFields}
-use Rattle.recording.specs.Reading.{Reading, andThen, entryAt, eventAt, fieldAt, kindOf, lineupAt, manyAt}
-use Rattle.recording.specs.Record.{All, EventOk, carries, codeOf, event, mostCall, mostEntries, mostOrder}
+use Rattle.recording.specs.Reading.{Reading, andThen, entryAt, eventAt, fieldAt, lineupAt, manyAt}
+use Rattle.recording.specs.Record.{All, EventOk, carries, numberOf, event, kindOf, maxCall, maxEntries, maxOrder}
 use Rattle.recording.proofs.Fields.{field-in, field-within}
 
 pub span-append : (fs gs : List Field) → span (fs ++ gs) ≡ span fs + span gs
@@ -109,7 +109,7 @@ module _ {A : Type 0} (bs : List ℕ) (item : ℕ → Reading A) (fields : A →
 
 -- ---- an event
 
-pub kind-code : (k : EventKind) → kindOf (codeOf k) ≡ k
+pub kind-code : (k : EventKind) → kindOf (numberOf k) ≡ k
 unfolding kindOf
 kind-code PostCalled = refl
 kind-code DrawCalled = refl
@@ -117,14 +117,14 @@ kind-code PostAnswered = refl
 kind-code DrawAnswered = refl
 kind-code DrawEmpty = refl
 
-pub code-most : (k : EventKind) → codeOf k ≤ 4
+pub code-most : (k : EventKind) → numberOf k ≤ 4
 code-most PostCalled = lit≤ tt
 code-most DrawCalled = lit≤ tt
 code-most PostAnswered = lit≤ tt
 code-most DrawAnswered = lit≤ tt
 code-most DrawEmpty = lit≤ tt
 
-pub code-kind : (n : ℕ) → n ≤ 4 → codeOf (kindOf n) ≡ n
+pub code-kind : (n : ℕ) → n ≤ 4 → numberOf (kindOf n) ≡ n
 unfolding kindOf
 code-kind zero h = refl
 code-kind (suc zero) h = refl
@@ -144,10 +144,10 @@ module _ (bs : List ℕ) (st p k p1 s p2 : ℕ) (some : 1 ≤ st)
   below : s < st
   below = omega (arith, field-within _ _ _ _ _ _ _ b .high)
 
-  code : codeOf (kindOf k) ≡ k
+  code : numberOf (kindOf k) ≡ k
   code = code-kind k (field-within _ _ _ _ _ _ _ a .high)
 
-  carrying : (o q : ℕ) → carries (kindOf k) ≡ true → fieldAt bs p2 12 0 mostOrder ≡ Ok (o, q) → EventStands bs st p (event (kindOf k) s o, q)
+  carrying : (o q : ℕ) → carries (kindOf k) ≡ true → fieldAt bs p2 12 0 maxOrder ≡ Ok (o, q) → EventStands bs st p (event (kindOf k) s o, q)
   unfolding eventFields
   carrying o q y d = (
     rw (y, code) (stands-append bs p p2 q _ _ two (field-stands _ _ _ _ _ _ _ d)),
@@ -159,7 +159,7 @@ module _ (bs : List ℕ) (st p k p1 s p2 : ℕ) (some : 1 ≤ st)
   bare y = (rw (y, code) two, record { station = below; order = lit≤ tt; uncarried = λ f. refl })
 
   either : (e : Event × ℕ) (c : Bool) → carries (kindOf k) ≡ c
-      → cond c (andThen (fieldAt bs p2 12 0 mostOrder) (λ o. Ok (event (kindOf k) s (o .0), o .1))) (Ok (event (kindOf k) s 0, p2)) ≡ Ok e → EventStands bs st p e
+      → cond c (andThen (fieldAt bs p2 12 0 maxOrder) (λ o. Ok (event (kindOf k) s (o .0), o .1))) (Ok (event (kindOf k) s 0, p2)) ≡ Ok e → EventStands bs st p e
   either e true y h =
       let d = ok-parts _ _ _ h in
       subst (λ (x : Event × ℕ). EventStands bs st p x) (same-ok _ _ (d .2)) (carrying (d .0 .0) (d .0 .1) y (d .1))
@@ -179,9 +179,9 @@ event-back-by bs st p e true y some o l r =
     let l′ = rw y at l in
     let r′ = rw y at r in
     let k = kind-code (e .kind) in
-    let a = field-back bs p 3 0 4 (codeOf (e .kind)) (l′ .0) (omega arith) (omega arith) (code-most (e .kind)) in
+    let a = field-back bs p 3 0 4 (numberOf (e .kind)) (l′ .0) (omega arith) (omega arith) (code-most (e .kind)) in
     let b = field-back bs (p + 3) 3 0 (st - 1) (e .station) (l′ .1 .0) (omega arith) (omega arith) (omega (arith, o .station)) in
-    let d = field-back bs (p + 3 + 3) 12 0 mostOrder (e .order) (l′ .1 .1 .0) (omega arith) (omega arith) (o .order) in
+    let d = field-back bs (p + 3 + 3) 12 0 maxOrder (e .order) (l′ .1 .1 .0) (omega arith) (omega arith) (o .order) in
     let q : p + (3 + (3 + (12 + 0))) ≡ p + 3 + 3 + 12 = omega arith in
     rw (a, b, k, y, d, q)
 event-back-by bs st p e false y some o l r =
@@ -189,7 +189,7 @@ event-back-by bs st p e false y some o l r =
     let r′ = rw y at r in
     let k = kind-code (e .kind) in
     let z = o .uncarried y in
-    let a = field-back bs p 3 0 4 (codeOf (e .kind)) (l′ .0) (omega arith) (omega arith) (code-most (e .kind)) in
+    let a = field-back bs p 3 0 4 (numberOf (e .kind)) (l′ .0) (omega arith) (omega arith) (code-most (e .kind)) in
     let b = field-back bs (p + 3) 3 0 (st - 1) (e .station) (l′ .1 .0) (omega arith) (omega arith) (omega (arith, o .station)) in
     let q : p + (3 + (3 + 0)) ≡ p + 3 + 3 = omega arith in
     rw (a, b, k, y, q) (ap (λ (x : ℕ). Ok (event (e .kind) (e .station) x, p + 3 + 3)) (sym z))
@@ -202,9 +202,9 @@ event-back bs st some p e o l r = event-back-by bs st p e (carries (e .kind)) re
 
 -- a line-up within the limits
 abbrev pub LineupOk : List ℕ → Type 0
-LineupOk l = (length l ≤ mostEntries) × All (λ c. c ≤ mostCall) l
+LineupOk l = (length l ≤ maxEntries) × All (λ c. c ≤ maxCall) l
 
-entry-stands : (bs : List ℕ) (p v q : ℕ) → entryAt bs p ≡ Ok (v, q) → Stands bs p q (entryFields v) × (v ≤ mostCall)
+entry-stands : (bs : List ℕ) (p v q : ℕ) → entryAt bs p ≡ Ok (v, q) → Stands bs p q (entryFields v) × (v ≤ maxCall)
 entry-stands bs p v q h = (field-stands _ _ _ _ _ _ _ h, field-within _ _ _ _ _ _ _ h .high)
 
 pub lineup-stands : (bs : List ℕ) (p : ℕ) (l : List ℕ) (q : ℕ) → lineupAt bs p ≡ Ok (l, q) → Stands bs p q (lineupFields l) × LineupOk l
@@ -212,20 +212,20 @@ unfolding lineupAt lineupFields
 lineup-stands bs p l q h =
     let a = ok-parts _ _ _ h in
     let n = field-within _ _ _ _ _ _ _ (a .1) in
-    let m = many-stands bs (entryAt bs) entryFields (λ c. c ≤ mostCall) (entry-stands bs) (a .0 .0) (a .0 .1) l q (n .room) (a .2) in
+    let m = many-stands bs (entryAt bs) entryFields (λ c. c ≤ maxCall) (entry-stands bs) (a .0 .0) (a .0 .1) l q (n .room) (a .2) in
     let f = field-stands _ _ _ _ _ _ _ (a .1) in (
       rw (m .2) (stands-append bs p (a .0 .1) q _ _ f (m .0)),
       (omega (arith, n .high, m .2), m .1),
     )
 
-entry-back : (bs : List ℕ) (p v : ℕ) → v ≤ mostCall → Laid bs p (entryFields v) → p + span (entryFields v) ≤ 8 * length bs → entryAt bs p ≡ Ok (v, p + span (entryFields v))
+entry-back : (bs : List ℕ) (p v : ℕ) → v ≤ maxCall → Laid bs p (entryFields v) → p + span (entryFields v) ≤ 8 * length bs → entryAt bs p ≡ Ok (v, p + span (entryFields v))
 unfolding Laid span
-entry-back bs p v h l r = field-back bs p 9 0 mostCall v (l .0) (omega arith) (omega arith) h
+entry-back bs p v h l r = field-back bs p 9 0 maxCall v (l .0) (omega arith) (omega arith) h
 
 pub lineup-back : (bs : List ℕ) (p : ℕ) (l : List ℕ) → LineupOk l → Laid bs p (lineupFields l) → p + span (lineupFields l) ≤ 8 * length bs
     → lineupAt bs p ≡ Ok (l, p + span (lineupFields l))
 unfolding lineupAt lineupFields Laid span
 lineup-back bs p l o h r =
-    let a = field-back bs p 10 0 mostEntries (length l) (h .0) (omega arith) (omega arith) (o .0) in
-    let m = many-back bs (entryAt bs) entryFields (λ c. c ≤ mostCall) (entry-back bs) l (p + 10) (o .1) (h .1) (omega arith) in
+    let a = field-back bs p 10 0 maxEntries (length l) (h .0) (omega arith) (omega arith) (o .0) in
+    let m = many-back bs (entryAt bs) entryFields (λ c. c ≤ maxCall) (entry-back bs) l (p + 10) (o .1) (h .1) (omega arith) in
     rw (a, m, add-assoc)

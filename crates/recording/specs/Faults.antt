@@ -1,4 +1,4 @@
--- The number and the place of each fault of a file or of a record.
+-- The number and the place of each fault of a file.
 use Rattle.bits.specs.declared.told.Place.the-variants.{AtBit}
 use Rattle.bits.specs.declared.told.Told.{Told}
 use Rattle.bits.specs.Told.{bitTold, told}

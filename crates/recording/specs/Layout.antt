@@ -8,7 +8,7 @@ use Rattle.std.specs.Joined.{joined}
 use Rattle.bits.specs.Bits.{spelled}
 use Rattle.recording.specs.declared.record.Event.{Event}
 use Rattle.recording.specs.declared.record.Recording.{Recording}
-use Rattle.recording.specs.Record.{carries, codeOf, lineupsOf, usedEvents}
+use Rattle.recording.specs.Record.{carries, numberOf, lineupsOf, usedEvents}
 
 -- a number in so many bits
 pub record Field : Type 0 where
@@ -36,8 +36,8 @@ headerFields r = bits 4 1 ∷ bits 4 (r .code) ∷ bits 4 (r .stations) ∷ bits
 unfoldable pub eventFields : Event → List Field
 eventFields e =
     cond (carries (e .kind))
-    (bits 3 (codeOf (e .kind)) ∷ bits 3 (e .station) ∷ bits 12 (e .order) ∷ [])
-    (bits 3 (codeOf (e .kind)) ∷ bits 3 (e .station) ∷ [])
+    (bits 3 (numberOf (e .kind)) ∷ bits 3 (e .station) ∷ bits 12 (e .order) ∷ [])
+    (bits 3 (numberOf (e .kind)) ∷ bits 3 (e .station) ∷ [])
 
 abbrev pub entryFields : ℕ → List Field
 entryFields c = bits 9 c ∷ []

@@ -15,16 +15,15 @@ use Rattle.bits.specs.declared.told.Place.the-variants.{AtBit}
 use Rattle.bits.specs.declared.told.Told.{Told}
 use Rattle.recording.specs.declared.reader.Header.{Header}
 use Rattle.recording.specs.declared.record.Event.{Event}
-use Rattle.recording.specs.declared.record.EventKind.{EventKind}
-use Rattle.recording.specs.declared.record.EventKind.the-variants.{PostCalled, DrawCalled, PostAnswered, DrawAnswered, DrawEmpty}
 use Rattle.recording.specs.declared.record.Recording.{Recording}
 use Rattle.recording.specs.Layout.{IsFile, gap}
-use Rattle.recording.specs.Record.{Limits, allEntries, carries, event, mostCall, mostCode, mostEntries, mostEvents, mostKind, mostOrder, mostStations, noEvent, padded}
+use Rattle.recording.specs.Record.{Limits, allEntries, carries, event, kindOf, maxCall, maxCode, maxEntries, maxEvents, maxKind, maxOrder, maxStations, noEvent, padded}
 
 -- what was read and the bit after it, or the fault
 abbrev pub Reading : Type 0 → Type 0
 Reading A = Result (A × ℕ) Told
 
+-- the first result, if it is a fault; else what follows from it
 abbrev pub andThen : {X Y : Type 0} → Result X Told → (X → Result Y Told) → Result Y Told
 andThen (Ok x) f = f x
 andThen (Err e) f = Err e
@@ -52,30 +51,26 @@ headerOf c s n = record { code = c; stations = s; count = n }
 unfoldable pub headerAt : List ℕ → ℕ → Reading Header
 headerAt bs p =
     andThen (fieldAt bs p 4 1 1) (λ edition.
-    andThen (fieldAt bs (edition .1) 4 0 mostCode) (λ code.
-    andThen (fieldAt bs (code .1) 4 1 mostStations) (λ stations.
-    andThen (fieldAt bs (stations .1) 11 0 mostEvents) (λ count.
+    andThen (fieldAt bs (edition .1) 4 0 maxCode) (λ code.
+    andThen (fieldAt bs (code .1) 4 1 maxStations) (λ stations.
+    andThen (fieldAt bs (stations .1) 11 0 maxEvents) (λ count.
     Ok (headerOf (code .0) (stations .0) (count .0), count .1)))))
-
--- the kind of a number up to 4
-unfoldable pub kindOf : ℕ → EventKind
-kindOf k = cond (eqb k 0) PostCalled (cond (eqb k 1) DrawCalled (cond (eqb k 2) PostAnswered (cond (eqb k 3) DrawAnswered DrawEmpty)))
 
 -- kind, station, and the order where the kind carries one
 unfoldable pub eventAt : List ℕ → ℕ → ℕ → Reading Event
 eventAt bs stations p =
-    andThen (fieldAt bs p 3 0 mostKind) (λ kind.
+    andThen (fieldAt bs p 3 0 maxKind) (λ kind.
     andThen (fieldAt bs (kind .1) 3 0 (stations - 1)) (λ station.
     cond (carries (kindOf (kind .0)))
-    (andThen (fieldAt bs (station .1) 12 0 mostOrder) (λ order. Ok (event (kindOf (kind .0)) (station .0) (order .0), order .1)))
+    (andThen (fieldAt bs (station .1) 12 0 maxOrder) (λ order. Ok (event (kindOf (kind .0)) (station .0) (order .0), order .1)))
     (Ok (event (kindOf (kind .0)) (station .0) 0, station .1))))
 
 abbrev pub entryAt : List ℕ → ℕ → Reading ℕ
-entryAt bs p = fieldAt bs p 9 0 mostCall
+entryAt bs p = fieldAt bs p 9 0 maxCall
 
 -- length, then the entries
 unfoldable pub lineupAt : List ℕ → ℕ → Reading (List ℕ)
-lineupAt bs p = andThen (fieldAt bs p 10 0 mostEntries) (λ n. manyAt (entryAt bs) (n .0) (n .1))
+lineupAt bs p = andThen (fieldAt bs p 10 0 maxEntries) (λ n. manyAt (entryAt bs) (n .0) (n .1))
 
 -- n filling bits from bit p on, each zero, and no byte after them; else fault 3
 unfoldable pub fillingAt : List ℕ → ℕ → ℕ → Result ℕ Told
@@ -88,8 +83,8 @@ recordOf h es ls = record {
   code = h .code;
   stations = h .stations;
   count = h .count;
-  events = padded mostEvents noEvent es;
-  lengths = padded mostStations 0 (map (λ l. length l) ls);
+  events = padded maxEvents noEvent es;
+  lengths = padded maxStations 0 (map (λ l. length l) ls);
   entries = padded allEntries 0 (joined (λ l. l) ls);
 }
 

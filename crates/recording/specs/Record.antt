@@ -1,8 +1,9 @@
 -- What a record holds, which of its places are in use, and when it is within the limits.
 use mathlib.Core.Path.{_≡_}
 use mathlib.Core.List.{List, [], _∷_, _++_}
-use mathlib.Core.Bool.{Bool, true, false}
+use mathlib.Core.Bool.{Bool, true, false, cond}
 use Prim.Native.Nat.{ℕ, _+_, _-_, _≤_, _<_}
+use lib.Dec.{eqb}
 use lib.ListN.{length, replicate, take, drop}
 use Rattle.recording.specs.declared.record.EventKind.{EventKind}
 use Rattle.recording.specs.declared.record.EventKind.the-variants.{PostCalled, DrawCalled, PostAnswered, DrawAnswered, DrawEmpty}
@@ -11,37 +12,41 @@ use Rattle.recording.specs.declared.record.Recording.{Recording}
 
 -- the highest code and number of a kind, the most stations, events, entries of one line-up and entries of all, the
 -- highest order and call number
-abbrev pub mostCode : ℕ
-mostCode = 3
+abbrev pub maxCode : ℕ
+maxCode = 3
 
-abbrev pub mostKind : ℕ
-mostKind = 4
+abbrev pub maxKind : ℕ
+maxKind = 4
 
-abbrev pub mostStations : ℕ
-mostStations = 8
+abbrev pub maxStations : ℕ
+maxStations = 8
 
-abbrev pub mostEvents : ℕ
-mostEvents = 1024
+abbrev pub maxEvents : ℕ
+maxEvents = 1024
 
-abbrev pub mostEntries : ℕ
-mostEntries = 512
+abbrev pub maxEntries : ℕ
+maxEntries = 512
 
 abbrev pub allEntries : ℕ
 allEntries = 4096
 
-abbrev pub mostOrder : ℕ
-mostOrder = 4095
+abbrev pub maxOrder : ℕ
+maxOrder = 4095
 
-abbrev pub mostCall : ℕ
-mostCall = 511
+abbrev pub maxCall : ℕ
+maxCall = 511
 
 -- the number of a kind
-abbrev pub codeOf : EventKind → ℕ
-codeOf PostCalled = 0
-codeOf DrawCalled = 1
-codeOf PostAnswered = 2
-codeOf DrawAnswered = 3
-codeOf DrawEmpty = 4
+abbrev pub numberOf : EventKind → ℕ
+numberOf PostCalled = 0
+numberOf DrawCalled = 1
+numberOf PostAnswered = 2
+numberOf DrawAnswered = 3
+numberOf DrawEmpty = 4
+
+-- the kind of a number up to 4
+unfoldable pub kindOf : ℕ → EventKind
+kindOf k = cond (eqb k 0) PostCalled (cond (eqb k 1) DrawCalled (cond (eqb k 2) PostAnswered (cond (eqb k 3) DrawAnswered DrawEmpty)))
 
 -- the kinds that carry an order
 abbrev pub carries : EventKind → Bool
@@ -64,8 +69,8 @@ allZero = record {
   code = 0;
   stations = 0;
   count = 0;
-  events = replicate mostEvents noEvent;
-  lengths = replicate mostStations 0;
+  events = replicate maxEvents noEvent;
+  lengths = replicate maxStations 0;
   entries = replicate allEntries 0;
 }
 
@@ -87,14 +92,14 @@ total (n ∷ ns) = n + total ns
 abbrev pub usedEntries : Recording → List ℕ
 usedEntries r = take (total (usedLengths r)) (r .entries)
 
--- a list of entries cut into parts of these lengths
-unfoldable pub cut : List ℕ → List ℕ → List (List ℕ)
-cut [] es = []
-cut (n ∷ ns) es = take n es ∷ cut ns (drop n es)
+-- a list of entries as parts of these lengths, one after the other
+unfoldable pub parts : List ℕ → List ℕ → List (List ℕ)
+parts [] es = []
+parts (n ∷ ns) es = take n es ∷ parts ns (drop n es)
 
 -- the line-ups, station by station
 abbrev pub lineupsOf : Recording → List (List ℕ)
-lineupsOf r = cut (usedLengths r) (r .entries)
+lineupsOf r = parts (usedLengths r) (r .entries)
 
 -- a list at the front of so many places, the others holding z
 unfoldable pub padded : {A : Type 0} → ℕ → A → List A → List A
@@ -109,18 +114,18 @@ All P (x ∷ xs) = P x × All P xs
 -- an event within the limits of a recording with so many stations
 pub record EventOk (stations : ℕ) (e : Event) : Type 0 where
   pub station : e .station < stations
-  pub order : e .order ≤ mostOrder
+  pub order : e .order ≤ maxOrder
   pub uncarried : carries (e .kind) ≡ false → e .order ≡ 0
 
 -- a recording within the limits: each field in its range, each unused place zero
 pub record Limits (r : Recording) : Type 0 where
-  pub code : r .code ≤ mostCode
+  pub code : r .code ≤ maxCode
   pub some : 1 ≤ r .stations
-  pub stations : r .stations ≤ mostStations
-  pub count : r .count ≤ mostEvents
+  pub stations : r .stations ≤ maxStations
+  pub count : r .count ≤ maxEvents
   pub events : All (EventOk (r .stations)) (usedEvents r)
-  pub lengths : All (λ n. n ≤ mostEntries) (usedLengths r)
-  pub entries : All (λ c. c ≤ mostCall) (usedEntries r)
-  pub restEvents : r .events ≡ padded mostEvents noEvent (usedEvents r)
-  pub restLengths : r .lengths ≡ padded mostStations 0 (usedLengths r)
+  pub lengths : All (λ n. n ≤ maxEntries) (usedLengths r)
+  pub entries : All (λ c. c ≤ maxCall) (usedEntries r)
+  pub restEvents : r .events ≡ padded maxEvents noEvent (usedEvents r)
+  pub restLengths : r .lengths ≡ padded maxStations 0 (usedLengths r)
   pub restEntries : r .entries ≡ padded allEntries 0 (usedEntries r)

@@ -6,14 +6,14 @@ use bits::fault::BitFaultDebug;
 use bits::told::Place;
 use bits::told::Told;
 
-/// A fault of a file or of a record.
+/// A fault of a file.
 #[derive(Clone, Copy, Debug)]
 pub enum ReadFault {
-    /// The bit layer's own.
+    /// The bytes end inside a field.
     Bit(BitFault),
     /// A field is outside its range; its first bit is told.
     Range { bit: usize },
-    /// A filling bit is 1, or a byte follows the last field; that bit, or the byte's first, is told.
+    /// A filling bit is 1, or a byte follows the filling; that bit, or the byte's first, is told.
     Filling { bit: usize },
 }
 

@@ -1,10 +1,13 @@
 //! The reader: a file's bytes into a record.
+//!
+//! Each function here asks that the cursor's place is below a power of two that leaves room for all that it reads, so that no
+//! sum of places can wrap, and ensures how far it moves the cursor at the most (`near`). `read` starts at bit 0.
 ghost use Prim.Native.Nat.{ℕ, _+_, _-_, _*_, _<_, _≤_, _^_};
 ghost use Rattle.bits.specs.Widths.{bitsOf};
 ghost use Rattle.recording.specs.Faults.{readTold};
 ghost use Rattle.recording.specs.Layout.{gap};
-ghost use Rattle.recording.specs.Reading.{Faulty, Holds, entryAt, eventAt, fieldAt, fillingAt, headerAt, kindOf, lineupAt, manyAt};
-ghost use Rattle.recording.specs.Record.{allEntries, allZero, mostEntries, mostEvents, mostStations, padded};
+ghost use Rattle.recording.specs.Reading.{Faulty, Holds, entryAt, eventAt, fieldAt, fillingAt, headerAt, lineupAt, manyAt};
+ghost use Rattle.recording.specs.Record.{allEntries, allZero, maxEntries, maxEvents, maxStations, padded};
 ghost use Rattle.std.specs.Joined.{joined};
 ghost use Rattle.std.specs.Results.{Cases};
 ghost use Rattle.std.specs.declared.result.Result.the-variants.{Ok, Err};
@@ -16,13 +19,13 @@ use crate::fault::ReadFaultFromBit;
 use crate::record::ALL_ENTRIES;
 use crate::record::Event;
 use crate::record::EventKind;
-use crate::record::MOST_CALL;
-use crate::record::MOST_CODE;
-use crate::record::MOST_ENTRIES;
-use crate::record::MOST_EVENTS;
-use crate::record::MOST_KIND;
-use crate::record::MOST_ORDER;
-use crate::record::MOST_STATIONS;
+use crate::record::MAX_CALL;
+use crate::record::MAX_CODE;
+use crate::record::MAX_ENTRIES;
+use crate::record::MAX_EVENTS;
+use crate::record::MAX_KIND;
+use crate::record::MAX_ORDER;
+use crate::record::MAX_STATIONS;
 use crate::record::Recording;
 use bits::cursor::BitCursor;
 use bits::width::Width;
@@ -56,19 +59,6 @@ fn field(cursor: &mut BitCursor, width: Width, low: u16, high: u16) -> Result<u1
     Ok(value)
 }
 
-/// The kind that a number up to 4 stands for.
-fn kind_of(code: u16) -> EventKind
-    ensures { λ r. ⌜ r ≡ kindOf code ⌝ }
-{
-    match code {
-        0 => EventKind::PostCalled,
-        1 => EventKind::DrawCalled,
-        2 => EventKind::PostAnswered,
-        3 => EventKind::DrawAnswered,
-        _ => EventKind::DrawEmpty,
-    }
-}
-
 /// The edition, the code, the stations and the event count.
 fn read_header(cursor: &mut BitCursor) -> Result<Header, ReadFault>
     requires { ⌜ now cursor .place < 2 ^ 59 ⌝ }
@@ -76,13 +66,13 @@ fn read_header(cursor: &mut BitCursor) -> Result<Header, ReadFault>
     ensures near { λ _. ⌜ now (cursor .exit) .place ≤ now (cursor .entry) .place + 23 ⌝ }
     ensures result { λ r. ⌜ Cases r
         (λ h. (headerAt (now (now (cursor .entry) .bytes)) (now (cursor .entry) .place) ≡ Ok (h, now (cursor .exit) .place))
-        × (1 ≤ h .stations) × (h .stations ≤ mostStations) × (h .count ≤ mostEvents))
+        × (1 ≤ h .stations) × (h .stations ≤ maxStations) × (h .count ≤ maxEvents))
         (λ e. headerAt (now (now (cursor .entry) .bytes)) (now (cursor .entry) .place) ≡ Err (readTold e)) ⌝ }
 {
     field(cursor, Width::Four, EDITION, EDITION)?;
-    let code = field(cursor, Width::Four, 0, MOST_CODE)?;
-    let stations = field(cursor, Width::Four, 1, MOST_STATIONS as u16)?;
-    let count = field(cursor, Width::Eleven, 0, MOST_EVENTS as u16)?;
+    let code = field(cursor, Width::Four, 0, MAX_CODE)?;
+    let stations = field(cursor, Width::Four, 1, MAX_STATIONS as u16)?;
+    let count = field(cursor, Width::Eleven, 0, MAX_EVENTS as u16)?;
     Ok(Header {
         code,
         stations,
@@ -100,11 +90,11 @@ fn read_event(cursor: &mut BitCursor, stations: u16) -> Result<Event, ReadFault>
         (λ v. eventAt (now (now (cursor .entry) .bytes)) stations (now (cursor .entry) .place) ≡ Ok (v, now (cursor .exit) .place))
         (λ e. eventAt (now (now (cursor .entry) .bytes)) stations (now (cursor .entry) .place) ≡ Err (readTold e)) ⌝ }
 {
-    let code = field(cursor, Width::Three, 0, MOST_KIND)?;
+    let number = field(cursor, Width::Three, 0, MAX_KIND)?;
     let station = field(cursor, Width::Three, 0, stations - 1)?;
-    let kind = kind_of(code);
+    let kind = EventKind::from_number(number);
     let order = if kind.carries_order() {
-        field(cursor, Width::Twelve, 0, MOST_ORDER)?
+        field(cursor, Width::Twelve, 0, MAX_ORDER)?
     } else {
         0
     };
@@ -118,7 +108,7 @@ fn read_event(cursor: &mut BitCursor, stations: u16) -> Result<Event, ReadFault>
 /// As many events as there are slots.
 fn read_events(cursor: &mut BitCursor, stations: u16, slots: &mut [Event]) -> Result<(), ReadFault>
     requires stations { ⌜ 1 ≤ stations ⌝ }
-    requires few { ⌜ length (now slots) ≤ mostEvents ⌝ }
+    requires few { ⌜ length (now slots) ≤ maxEvents ⌝ }
     requires countable { ⌜ now cursor .place < 2 ^ 58 ⌝ }
     ensures bytes { λ _. ⌜ now (now (cursor .exit) .bytes) ≡ now (now (cursor .entry) .bytes) ⌝ }
     ensures near { λ _. ⌜ now (cursor .exit) .place ≤ now (cursor .entry) .place + 18 * length (now (slots .entry)) ⌝ }
@@ -134,7 +124,7 @@ fn read_events(cursor: &mut BitCursor, stations: u16, slots: &mut [Event]) -> Re
 
 /// As many entries as there are slots.
 fn read_entries(cursor: &mut BitCursor, slots: &mut [u16]) -> Result<(), ReadFault>
-    requires few { ⌜ length (now slots) ≤ mostEntries ⌝ }
+    requires few { ⌜ length (now slots) ≤ maxEntries ⌝ }
     requires countable { ⌜ now cursor .place < 2 ^ 58 ⌝ }
     ensures bytes { λ _. ⌜ now (now (cursor .exit) .bytes) ≡ now (now (cursor .entry) .bytes) ⌝ }
     ensures near { λ _. ⌜ now (cursor .exit) .place ≤ now (cursor .entry) .place + 9 * length (now (slots .entry)) ⌝ }
@@ -143,23 +133,23 @@ fn read_entries(cursor: &mut BitCursor, slots: &mut [u16]) -> Result<(), ReadFau
         (λ e. manyAt (entryAt (now (now (cursor .entry) .bytes))) (length (now (slots .entry))) (now (cursor .entry) .place) ≡ Err (readTold e)) ⌝ }
 {
     for slot in slots.iter_mut() {
-        *slot = field(cursor, Width::Nine, 0, MOST_CALL)?;
+        *slot = field(cursor, Width::Nine, 0, MAX_CALL)?;
     }
     Ok(())
 }
 
 /// The next line-up, into the front of the slots; tells its length.
 fn read_lineup(cursor: &mut BitCursor, slots: &mut [u16]) -> Result<u16, ReadFault>
-    requires room { ⌜ mostEntries ≤ length (now slots) ⌝ }
+    requires room { ⌜ maxEntries ≤ length (now slots) ⌝ }
     requires countable { ⌜ now cursor .place < 2 ^ 57 ⌝ }
     ensures bytes { λ _. ⌜ now (now (cursor .exit) .bytes) ≡ now (now (cursor .entry) .bytes) ⌝ }
-    ensures near { λ _. ⌜ now (cursor .exit) .place ≤ now (cursor .entry) .place + 4618 ⌝ }
+    ensures near { λ _. ⌜ now (cursor .exit) .place ≤ now (cursor .entry) .place + (10 + 9 * maxEntries) ⌝ }
     ensures result { λ r. ⌜ Cases r
-        (λ n. (n ≤ mostEntries) × ((l : List ℕ) × (lineupAt (now (now (cursor .entry) .bytes)) (now (cursor .entry) .place) ≡ Ok (l, now (cursor .exit) .place))
+        (λ n. (n ≤ maxEntries) × ((l : List ℕ) × (lineupAt (now (now (cursor .entry) .bytes)) (now (cursor .entry) .place) ≡ Ok (l, now (cursor .exit) .place))
         × (length l ≡ n) × (now (slots .exit) ≡ l ++ drop n (now (slots .entry)))))
         (λ e. lineupAt (now (now (cursor .entry) .bytes)) (now (cursor .entry) .place) ≡ Err (readTold e)) ⌝ }
 {
-    let length = field(cursor, Width::Ten, 0, MOST_ENTRIES as u16)?;
+    let length = field(cursor, Width::Ten, 0, MAX_ENTRIES as u16)?;
     read_entries(cursor, &mut slots[0..length as usize])?;
     Ok(length)
 }
@@ -168,18 +158,18 @@ fn read_lineup(cursor: &mut BitCursor, slots: &mut [u16]) -> Result<u16, ReadFau
 fn read_lineups(
     cursor: &mut BitCursor,
     stations: u16,
-    lengths: &mut [u16; MOST_STATIONS],
+    lengths: &mut [u16; MAX_STATIONS],
     entries: &mut [u16; ALL_ENTRIES],
 ) -> Result<(), ReadFault>
-    requires few { ⌜ stations ≤ mostStations ⌝ }
-    requires lengths { ⌜ now lengths ≡ replicate mostStations 0 ⌝ }
+    requires few { ⌜ stations ≤ maxStations ⌝ }
+    requires lengths { ⌜ now lengths ≡ replicate maxStations 0 ⌝ }
     requires entries { ⌜ now entries ≡ replicate allEntries 0 ⌝ }
     requires countable { ⌜ now cursor .place < 2 ^ 56 ⌝ }
     ensures bytes { λ _. ⌜ now (now (cursor .exit) .bytes) ≡ now (now (cursor .entry) .bytes) ⌝ }
-    ensures near { λ _. ⌜ now (cursor .exit) .place ≤ now (cursor .entry) .place + 36944 ⌝ }
+    ensures near { λ _. ⌜ now (cursor .exit) .place ≤ now (cursor .entry) .place + maxStations * (10 + 9 * maxEntries) ⌝ }
     ensures result { λ r. ⌜ Cases r
         (λ _. ((ls : List (List ℕ)) × (manyAt (lineupAt (now (now (cursor .entry) .bytes))) stations (now (cursor .entry) .place) ≡ Ok (ls, now (cursor .exit) .place))
-        × (now (lengths .exit) ≡ padded mostStations 0 (map (λ l. length l) ls))
+        × (now (lengths .exit) ≡ padded maxStations 0 (map (λ l. length l) ls))
         × (now (entries .exit) ≡ padded allEntries 0 (joined (λ l. l) ls))))
         (λ e. manyAt (lineupAt (now (now (cursor .entry) .bytes))) stations (now (cursor .entry) .place) ≡ Err (readTold e)) ⌝ }
 {

@@ -1,26 +1,26 @@
-ghost use Rattle.recording.specs.Record.{allZero, carries, codeOf};
+ghost use Rattle.recording.specs.Record.{allZero, carries, kindOf, numberOf};
 ghost use mathlib.Core.Path.{_≡_};
 
 /// The highest code of a kind of lane.
-pub const MOST_CODE: u16 = 3;
+pub(crate) const MAX_CODE: u16 = 3;
 
 /// The highest number of an event's kind.
-pub const MOST_KIND: u16 = 4;
+pub(crate) const MAX_KIND: u16 = 4;
 
 /// The highest order.
-pub const MOST_ORDER: u16 = 4095;
+pub(crate) const MAX_ORDER: u16 = 4095;
 
 /// The highest call number.
-pub const MOST_CALL: u16 = 511;
+pub(crate) const MAX_CALL: u16 = 511;
 
 /// The most stations that a recording has.
-pub const MOST_STATIONS: usize = 8;
+pub const MAX_STATIONS: usize = 8;
 
 /// The most events that a recording has.
-pub const MOST_EVENTS: usize = 1024;
+pub const MAX_EVENTS: usize = 1024;
 
 /// The most entries that a station's line-up has.
-pub const MOST_ENTRIES: usize = 512;
+pub const MAX_ENTRIES: usize = 512;
 
 /// The most entries that all line-ups of a recording have together.
 pub const ALL_ENTRIES: usize = 4096;
@@ -43,8 +43,8 @@ pub enum EventKind {
 
 impl EventKind {
     /// The number that stands for the kind in a file.
-    pub fn code(self) -> u16
-        ensures { λ r. ⌜ r ≡ codeOf self ⌝ }
+    pub fn number(self) -> u16
+        ensures { λ r. ⌜ r ≡ numberOf self ⌝ }
     {
         match self {
             EventKind::PostCalled => 0,
@@ -52,6 +52,19 @@ impl EventKind {
             EventKind::PostAnswered => 2,
             EventKind::DrawAnswered => 3,
             EventKind::DrawEmpty => 4,
+        }
+    }
+
+    /// The kind that a number up to 4 stands for.
+    pub(crate) fn from_number(number: u16) -> EventKind
+        ensures { λ r. ⌜ r ≡ kindOf number ⌝ }
+    {
+        match number {
+            0 => EventKind::PostCalled,
+            1 => EventKind::DrawCalled,
+            2 => EventKind::PostAnswered,
+            3 => EventKind::DrawAnswered,
+            _ => EventKind::DrawEmpty,
         }
     }
 
@@ -89,9 +102,9 @@ pub struct Recording {
     /// How many events there are.
     pub count: u16,
     /// The events, in the sequence in which they happened.
-    pub events: [Event; MOST_EVENTS],
+    pub events: [Event; MAX_EVENTS],
     /// The length of each station's line-up.
-    pub lengths: [u16; MOST_STATIONS],
+    pub lengths: [u16; MAX_STATIONS],
     /// The entries of all line-ups, station by station; each is the number of a call, counted from 0 by call events.
     pub entries: [u16; ALL_ENTRIES],
 }
@@ -109,8 +122,8 @@ impl Recording {
                 kind: EventKind::PostCalled,
                 station: 0,
                 order: 0,
-            }; MOST_EVENTS],
-            lengths: [0; MOST_STATIONS],
+            }; MAX_EVENTS],
+            lengths: [0; MAX_STATIONS],
             entries: [0; ALL_ENTRIES],
         }
     }

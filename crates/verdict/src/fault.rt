@@ -11,7 +11,7 @@ use recording::fault::ReadFaultDebug;
 /// A fault for which a recording is refused.
 #[derive(Clone, Copy, Debug)]
 pub enum JudgeFault {
-    /// The reader's own.
+    /// The file could not be read.
     Read(ReadFault),
     /// A call by a station that has a call open.
     Busy { event: usize },

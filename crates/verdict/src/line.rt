@@ -3,7 +3,7 @@ ghost use Rattle.verdict.specs.Room.{room};
 ghost use lib.ListN.{length};
 ghost use mathlib.Core.Path.{_≡_};
 
-/// How many bytes a line has room for. No line is longer than 85, since a number has at most 20 digits.
+/// How many bytes a line has room for.
 pub(crate) const ROOM: usize = 96;
 
 /// A line of text as it is made: the first `len` bytes.
@@ -15,4 +15,5 @@ pub(crate) struct Line {
     ghost within: { len ≤ room },
 }
 
-mod work;
+// The methods stand apart: their contracts cite a definition that names `Line`, which this file cannot import.
+mod text;

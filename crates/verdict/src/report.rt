@@ -110,7 +110,7 @@ pub fn report(verdict: Verdict, into: &mut [u8]) -> Result<usize, ReportFault>
         × (now (into .exit) ≡ lineOf verdict ++ drop (length (lineOf verdict)) (now (into .entry))))
         (λ e. (reportTold e ≡ tells 17 (Needs (length (lineOf verdict)))) × (length (now (into .entry)) < length (lineOf verdict))
         × (now (into .exit) ≡ now (into .entry))) ⌝ }
-    ensures longest { λ _. ⌜ length (lineOf verdict) ≤ room ⌝ }
+    ensures longest { λ _. do ⌜ (length (lineOf verdict) ≤ room) × ((← ⟦LONGEST⟧ .exit) ≡ room) ⌝ }
 {
     let line = compose(verdict);
     let text = line.text();

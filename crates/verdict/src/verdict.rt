@@ -1,8 +1,7 @@
 use crate::fault::JudgeFault;
-use crate::fault::JudgeFaultDebug;
 
 /// A verdict on a recording, as a report tells it.
-#[derive(Clone, Copy, Debug)]
+#[derive(Clone, Copy)]
 pub enum Verdict {
     /// Accepted: the code of its kind of lane, its number of stations and of calls.
     Accepted {

@@ -9,13 +9,13 @@ use Rattle.std.proofs.shelf.Results.{err-from-errBy, cases-weaker}
 use Rattle.std.specs.declared.result.Result.the-variants.{Ok, Err}
 use Rattle.recording.specs.Faults.{readTold}
 use Rattle.recording.specs.Reading.{decode, headerAt}
-use Rattle.recording.specs.Record.{mostEvents, noEvent, padded}
+use Rattle.recording.specs.Record.{maxEvents, noEvent, padded}
 use Rattle.recording.specs.declared.record.Event.{Event}
 use Rattle.recording.proofs.Files.{faulty, holds}
 use Rattle.recording.proofs.Padded.{padded-front}
 use Rattle.recording.proofs.reader.fill.Needs as need
 
-slots-length : (evs : List Event) (n : ℕ) → evs ≡ replicate mostEvents noEvent → n ≤ mostEvents → length (take n evs) ≡ n
+slots-length : (evs : List Event) (n : ℕ) → evs ≡ replicate maxEvents noEvent → n ≤ maxEvents → length (take n evs) ≡ n
 slots-length evs n e h = length-take n evs ∙ rw (e, length-replicate) (omega arith)
 
 pub returns-in-Break-header : need.returns-in-Break-header
@@ -78,8 +78,8 @@ returns c =
     let g = rw (b .bytes, a .bytes, c .new-cursor .ensures .bytes) at (d .result .1) in
     let v : now (c .read-lineups .last .cursor .bytes) ≡ now (c .args .bytes) = d .bytes ∙ b .bytes ∙ a .bytes ∙ c .new-cursor .ensures .bytes in
     let m : length (c .read-events .last .slots) ≡ n = rw (sub-zero, s) at (c .read-events .kept .slots) in
-    let k : c .read-events .last .slots ++ drop n (c .args .recording .now .events) ≡ padded mostEvents noEvent (c .read-events .last .slots) =
-    rw (ap (λ x. x .events) (c .pre)) (padded-front mostEvents noEvent (c .read-events .last .slots) n m) in
+    let k : c .read-events .last .slots ++ drop n (c .args .recording .now .events) ≡ padded maxEvents noEvent (c .read-events .last .slots) =
+    rw (ap (λ x. x .events) (c .pre)) (padded-front maxEvents noEvent (c .read-events .last .slots) n m) in
     cases-weaker (c .read-filling .result) (c .read-filling .ensures)
     (λ _ l. holds _ _ (rw (e, f, g, rw v at (l .1)) (rw (sub-zero, k, d .result .2, d .result .3))))
     (λ _ l. faulty _ _ (rw (e, f, g, rw v at l)))

@@ -6,15 +6,15 @@ use denote.Ref.{now}
 use Rattle.std.proofs.shelf.Results.{err-from-errBy}
 use Rattle.std.specs.declared.result.Result.the-variants.{Ok, Err}
 use Rattle.recording.specs.Faults.{readTold}
-use Rattle.recording.specs.Reading.{eventAt, fieldAt, kindOf}
-use Rattle.recording.specs.Record.{carries}
+use Rattle.recording.specs.Reading.{eventAt, fieldAt}
+use Rattle.recording.specs.Record.{carries, kindOf}
 use Rattle.recording.proofs.reader.read_event.Needs as need
 
-pub returns-in-Break-code : need.returns-in-Break-code
+pub returns-in-Break-number : need.returns-in-Break-number
 unfolding eventAt
-returns-in-Break-code c =
+returns-in-Break-number c =
     let r = err-from-errBy (c .from-residual .result) (c .from-residual .ensures .1) in
-    let h = c .in-Break-code .ensures tt in
+    let h = c .in-Break-number .ensures tt in
     rw (r .1, r .2) (record { bytes = h .bytes; near = omega (arith, h .near); result = rw (h .result) })
 
 pub returns-in-Break-station : need.returns-in-Break-station
@@ -22,7 +22,7 @@ unfolding eventAt
 returns-in-Break-station c =
     let r = err-from-errBy (c .from-residual-in-Break-station .result) (c .from-residual-in-Break-station .ensures .1) in
     let bs = now (c .args .cursor .now .bytes) in
-    let a = c .in-Continue-code .ensures tt in
+    let a = c .in-Continue-number .ensures tt in
     let h = c .in-Break-station .ensures tt in
     let e : fieldAt bs (c .field .last .cursor .place) 3 0 (c .args .stations - 1) ≡ Err (readTold (c .in-Break-station .field-0 .0)) = cc in
     rw (r .1, r .2) (record { bytes = h .bytes ∙ a .bytes; near = omega (arith, a .near, h .near); result = rw (a .result .0, e) })
@@ -32,10 +32,10 @@ unfolding eventAt
 returns-in-Break-order c =
     let r = err-from-errBy (c .from-residual-in-Break-order .result) (c .from-residual-in-Break-order .ensures .1) in
     let bs = now (c .args .cursor .now .bytes) in
-    let a = c .in-Continue-code .ensures tt in
+    let a = c .in-Continue-number .ensures tt in
     let b = c .in-Continue-station .ensures tt in
     let h = c .in-Break-order .ensures tt in
-    let y : carries (kindOf (c .in-Continue-code .code)) ≡ true = (let t = c .if-carries-order .taken in cc) in
+    let y : carries (kindOf (c .in-Continue-number .number)) ≡ true = (let t = c .if-carries-order .taken in cc) in
     let d : fieldAt bs (c .field .last .cursor .place) 3 0 (c .args .stations - 1) ≡ Ok (c .in-Continue-station .station, c .field-2 .last .cursor .place) = cc in
     let e : fieldAt bs (c .field-2 .last .cursor .place) 12 0 4095 ≡ Err (readTold (c .in-Break-order .field-0 .0)) = cc in
     rw (r .1, r .2) (record { bytes = h .bytes ∙ b .bytes ∙ a .bytes; near = omega (arith, a .near, b .near, h .near); result = rw (a .result .0, d, y, e) })
@@ -44,28 +44,28 @@ pub returns-in-Continue-order : need.returns-in-Continue-order
 unfolding eventAt
 returns-in-Continue-order c =
     let bs = now (c .args .cursor .now .bytes) in
-    let a = c .in-Continue-code .ensures tt in
+    let a = c .in-Continue-number .ensures tt in
     let b = c .in-Continue-station .ensures tt in
     let h = c .in-Continue-order .ensures tt in
-    let y : carries (kindOf (c .in-Continue-code .code)) ≡ true = (let t = c .if-carries-order .taken in cc) in
+    let y : carries (kindOf (c .in-Continue-number .number)) ≡ true = (let t = c .if-carries-order .taken in cc) in
     let d : fieldAt bs (c .field .last .cursor .place) 3 0 (c .args .stations - 1) ≡ Ok (c .in-Continue-station .station, c .field-2 .last .cursor .place) = cc in
     let e : fieldAt bs (c .field-2 .last .cursor .place) 12 0 4095 ≡ Ok (c .in-Continue-order .order, c .field-then-carries-order .last .cursor .place) = cc in
     record {
       bytes = h .bytes ∙ b .bytes ∙ a .bytes;
       near = omega (arith, a .near, b .near, h .near);
-      result = rw (a .result .0, d, y, e, c .kind-of-kind .ensures);
+      result = rw (a .result .0, d, y, e, c .from-number-kind .ensures);
     }
 
 pub returns-else-carries-order : need.returns-else-carries-order
 unfolding eventAt
 returns-else-carries-order c =
     let bs = now (c .args .cursor .now .bytes) in
-    let a = c .in-Continue-code .ensures tt in
+    let a = c .in-Continue-number .ensures tt in
     let b = c .in-Continue-station .ensures tt in
-    let y : carries (kindOf (c .in-Continue-code .code)) ≡ false = (let t = c .if-carries-order .left in cc) in
+    let y : carries (kindOf (c .in-Continue-number .number)) ≡ false = (let t = c .if-carries-order .left in cc) in
     let d : fieldAt bs (c .field .last .cursor .place) 3 0 (c .args .stations - 1) ≡ Ok (c .in-Continue-station .station, c .field-2 .last .cursor .place) = cc in
     record {
       bytes = b .bytes ∙ a .bytes;
       near = omega (arith, a .near, b .near);
-      result = rw (a .result .0, d, y, c .kind-of-kind .ensures);
+      result = rw (a .result .0, d, y, c .from-number-kind .ensures);
     }

@@ -5,7 +5,7 @@ use denote.Ref.{now}
 use lib.ListN.{length}
 use Rattle.std.specs.Joined.{joined}
 use Rattle.recording.specs.Reading.{lineupAt, manyAt}
-use Rattle.recording.specs.Record.{allEntries, mostStations, padded}
+use Rattle.recording.specs.Record.{allEntries, maxStations, padded}
 use Rattle.recording.proofs.Many.{after}
 use Rattle.recording.proofs.reader.read_lineups.Given as given
 
@@ -17,5 +17,5 @@ Inv-loop-station l =
     × ((ls : List (List ℕ)) × (length ls ≡ l .station) × (length (joined (λ x. x) ls) ≡ l .start)
     × (manyAt (lineupAt (now (l .entry .cursor .bytes))) (l .stations) (l .entry .cursor .place)
     ≡ after ls (manyAt (lineupAt (now (l .entry .cursor .bytes))) (l .stations - l .station) (l .cursor .place)))
-    × (l .lengths ≡ padded mostStations 0 (map (λ x. length x) ls))
+    × (l .lengths ≡ padded maxStations 0 (map (λ x. length x) ls))
     × (l .entries ≡ padded allEntries 0 (joined (λ x. x) ls)))

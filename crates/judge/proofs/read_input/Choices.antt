@@ -1,6 +1,6 @@
 use Prim.Native.Nat.{_-_, _≤_}
 use lib.ListN.{length}
-use Rattle.judge.proofs.fill.Given as given
+use Rattle.judge.proofs.read_input.Given as given
 
 abbrev pub Inv-loop-filled : given.InvT-loop-filled
 Inv-loop-filled g l = l .filled ≤ length (l .entry .buffer)

@@ -1,7 +1,7 @@
 use native.Mathlib.Omega.{arith}
 use Rattle.std.proofs.shelf.Ways.{tells}
-use Rattle.recording.specs.Reading.{kindOf}
-use Rattle.recording.proofs.reader.kind_of.Needs as need
+use Rattle.recording.specs.Record.{kindOf}
+use Rattle.recording.proofs.record.EventKind.from_number.Needs as need
 
 pub returns-in-0 : need.returns-in-0
 unfolding kindOf
