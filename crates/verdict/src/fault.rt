@@ -33,9 +33,9 @@ pub enum JudgeFault {
     Repeated { station: usize, entry: usize },
     /// An entry whose call precedes a call named earlier.
     Overtaken { station: usize, entry: usize },
-    /// A draw of an order that is not held or may not leave, or an empty draw that meets a held order.
+    /// A draw whose order is not held or may not leave, or an empty draw while an order is held.
     NotAdmitted { station: usize, entry: usize },
-    /// A post that meets a full lane.
+    /// A post to a lane that is full.
     LaneFull { station: usize, entry: usize },
     /// Calls are missing from a line-up, whose length is told.
     Missing { station: usize, length: usize },
