@@ -1,3 +1,5 @@
 pub mod Spells
 pub mod Windows
 pub mod Widths
+pub mod Splices
+pub mod Pastes

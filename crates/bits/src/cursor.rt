@@ -11,6 +11,7 @@ ghost use mathlib.Core.Path.{_≡_};
 use crate::fault::BitFault;
 use crate::width::Width;
 use crate::window::cut;
+use crate::window::field_end;
 
 /// A place in the caller's bytes, counted in bits, that never passes their end.
 #[derive(Drop)]
@@ -56,13 +57,13 @@ impl<'a> BitCursor<'a> {
             × (reach (now (now (self .entry) .bytes)) < now (self .entry) .place + bitsOf width)) ⌝ }
     {
         let bits = width.bits();
-        match self.place.checked_add(bits) {
-            Some(end) if (end - 1) / 8 < self.bytes.len() => {
+        match field_end(self.bytes, self.place, bits) {
+            Some(end) => {
                 let value = cut(self.bytes, self.place, bits);
                 self.place = end;
                 Ok(value)
             }
-            _ => Err(BitFault::Ends { bit: self.place }),
+            None => Err(BitFault::Ends { bit: self.place }),
         }
     }
 }

@@ -1,6 +1,7 @@
 //! A window of three bytes: a field of at most 12 bits always lies within one.
 ghost use Prim.Native.Nat.{_+_, _-_, _*_, _<_, _≤_, _^_};
-ghost use Rattle.bits.specs.Bits.{spelled};
+ghost use Rattle.bits.specs.Bits.{reach, spelled};
+ghost use Rattle.std.specs.Options.{Cases};
 ghost use lib.ListN.{getD};
 ghost use mathlib.Core.Path.{_≡_};
 
@@ -24,7 +25,7 @@ fn byte(bytes: &[u8], index: usize) -> u32
 }
 
 /// The three bytes from an index on as one number, with zeros past the end.
-fn window(bytes: &[u8], first: usize) -> u32
+pub(crate) fn window(bytes: &[u8], first: usize) -> u32
     requires { ⌜ first < 2 ^ 62 ⌝ }
     ensures { λ r. ⌜ r ≡ spelled (now (bytes .entry)) (8 * first) 24 ⌝ }
 {
@@ -38,4 +39,18 @@ pub(crate) fn cut(bytes: &[u8], place: usize, bits: usize) -> u16
 {
     let shift = 24 - place % 8 - bits;
     (window(bytes, place / 8) >> shift & mask(bits)) as u16
+}
+
+/// The bit after so many bits from a place on, or nothing where the bytes end before, or where 64 bits cannot count so far.
+pub(crate) fn field_end(bytes: &[u8], place: usize, bits: usize) -> Option<usize>
+    ensures { λ r. ⌜ Cases r
+        (reach (now (bytes .entry)) < place + bits)
+        (λ end. (end ≡ place + bits) × (place + bits ≤ reach (now (bytes .entry)))) ⌝ }
+{
+    let end = place.checked_add(bits)?;
+    if end.div_ceil(8) <= bytes.len() {
+        Some(end)
+    } else {
+        None
+    }
 }

@@ -1,14 +1,14 @@
 //! Reads a recording from standard input, and writes the verdict on it to standard output, in one line.
 ghost use Prim.Native.Nat.{_≤_};
 ghost use Rattle.judge.specs.Judge.{recordLeft, refusal};
-ghost use Rattle.recording.specs.Reading.{decode};
+ghost use Rattle.reader.specs.Reading.{decode};
 ghost use Rattle.std.specs.Results.{Cases};
 ghost use Rattle.std.specs.Vec.{made};
 ghost use Rattle.verdict.specs.Faults.{judgeTold};
 ghost use Rattle.verdict.specs.Report.{lineOf, refusedLine};
 ghost use lib.ListN.{length};
 ghost use mathlib.Core.Path.{_≡_};
-use recording::reader::read;
+use reader::read;
 use recording::record::Recording;
 use std::io;
 use std::io::Read;

@@ -1,6 +1,5 @@
-mod Fields
-mod Files
-mod Filling
-mod Layouts
-mod Many
-mod Padded
+mod Checks
+pub mod Layouts
+pub mod Lineups
+pub mod Padded
+mod Tries

@@ -4,7 +4,7 @@ use mathlib.Core.List.{List, [], _∷_, _++_, append-assoc, append-nil}
 use Prim.Native.Nat.{ℕ, suc, _+_, _-_, _<_, _≤_}
 use native.Mathlib.Nat.{sub-zero}
 use native.Mathlib.Omega.{arith}
-use lib.ListN.{length, take, drop, set, replicate, length-append, length-replicate}
+use lib.ListN.{length, take, drop, set, replicate, length-append, length-drop, length-replicate, length-take, take-append-drop}
 use Rattle.std.proofs.shelf.Lists.{set-at, take-at, drop-at, take-all, drop-all, drop-replicate}
 use Rattle.recording.specs.Record.{padded}
 
@@ -46,3 +46,36 @@ module _ {A : Type 0} (n : ℕ) (z : A) where
   pub length-padded : (xs : List A) → length (padded n z xs) ≡ length xs + (n - length xs)
   unfolding padded
   length-padded xs = simp (length-append, length-replicate)
+
+  -- the first k places are there
+  pub front-full : (xs : List A) (k : ℕ) → k ≤ n → xs ≡ padded n z (take k xs) → length (take k xs) ≡ k
+  front-full xs k h e =
+      let a = length-padded (take k xs) in
+      let b = ap (λ (l : List A). length l) e in
+      let c = length-take k xs in
+      omega arith
+
+  pub padded-long : (xs : List A) (k : ℕ) → xs ≡ padded n z (take k xs) → n ≤ length xs
+  padded-long xs k e =
+      let a = length-padded (take k xs) in
+      let b = ap (λ (l : List A). length l) e in
+      omega arith
+
+  -- a list whose places from k on hold z, and back
+  pub padded-back : (xs : List A) (k : ℕ) → k ≤ n → length xs ≡ n → drop k xs ≡ replicate (length (drop k xs)) z → xs ≡ padded n z (take k xs)
+  unfolding padded
+  padded-back xs k h l d =
+      let a = length-drop k xs in
+      let b = length-take k xs in
+      let e : length (drop k xs) ≡ n - length (take k xs) = omega arith in
+      sym (take-append-drop k xs) ∙ ap (λ (x : List A). take k xs ++ x) (d ∙ ap (λ (i : ℕ). replicate i z) e)
+
+  pub padded-rest : (xs : List A) (k : ℕ) → k ≤ n → xs ≡ padded n z (take k xs) → drop k xs ≡ replicate (n - k) z
+  unfolding padded
+  padded-rest xs k h e =
+      let f = front-full xs k h e in
+      ap (drop k) e ∙ rw (drop-at (take k xs) (replicate (n - length (take k xs)) z) k f, f)
+
+-- the places from k on, as a part of n places
+pub rest-all : {A : Type 0} (n k : ℕ) (xs : List A) → length xs ≡ n → take (n - k) (drop k xs) ≡ drop k xs
+rest-all n k xs l = take-all (n - k) (drop k xs) (simp length-drop (omega arith))

@@ -1,4 +1,4 @@
 pub mod Faults
 pub mod Record
 pub mod Layout
-pub mod Reading
+pub mod Ranges

@@ -1,22 +1,18 @@
 -- What a record holds, which of its places are in use, and when it is within the limits.
 use mathlib.Core.Path.{_≡_}
 use mathlib.Core.List.{List, [], _∷_, _++_}
-use mathlib.Core.Bool.{Bool, true, false, cond}
+use mathlib.Core.Bool.{Bool, true, false}
 use Prim.Native.Nat.{ℕ, _+_, _-_, _≤_, _<_}
-use lib.Dec.{eqb}
 use lib.ListN.{length, replicate, take, drop}
 use Rattle.recording.specs.declared.record.EventKind.{EventKind}
 use Rattle.recording.specs.declared.record.EventKind.the-variants.{PostCalled, DrawCalled, PostAnswered, DrawAnswered, DrawEmpty}
 use Rattle.recording.specs.declared.record.Event.{Event}
 use Rattle.recording.specs.declared.record.Recording.{Recording}
 
--- the highest code and number of a kind, the most stations, events, entries of one line-up and entries of all, the
+-- the highest code of a kind of lane, the most stations, events, entries of one line-up and entries of all, the
 -- highest order and call number
 abbrev pub maxCode : ℕ
 maxCode = 3
-
-abbrev pub maxKind : ℕ
-maxKind = 4
 
 abbrev pub maxStations : ℕ
 maxStations = 8
@@ -43,10 +39,6 @@ numberOf DrawCalled = 1
 numberOf PostAnswered = 2
 numberOf DrawAnswered = 3
 numberOf DrawEmpty = 4
-
--- the kind of a number up to 4
-unfoldable pub kindOf : ℕ → EventKind
-kindOf k = cond (eqb k 0) PostCalled (cond (eqb k 1) DrawCalled (cond (eqb k 2) PostAnswered (cond (eqb k 3) DrawAnswered DrawEmpty)))
 
 -- the kinds that carry an order
 abbrev pub carries : EventKind → Bool

@@ -1,39 +1,22 @@
-ghost use Rattle.recording.specs.Faults.{readTold};
-ghost use Rattle.recording.specs.declared.fault.ReadFault.the-variants.{Bit};
+ghost use Rattle.recording.specs.Faults.{fieldTold};
 ghost use mathlib.Core.Path.{_≡_};
-use bits::fault::BitFault;
-use bits::fault::BitFaultDebug;
 use bits::told::Place;
 use bits::told::Told;
 
-/// A fault of a file.
+/// A fault of a field, in a file or in a record.
 #[derive(Clone, Copy, Debug)]
-pub enum ReadFault {
-    /// The bytes end inside a field.
-    Bit(BitFault),
-    /// A field is outside its range; its first bit is told.
+pub enum FieldFault {
+    /// The field is outside its range. Its first bit is told, which for a record is the bit where it would stand in a file.
     Range { bit: usize },
-    /// A filling bit is 1, or a byte follows the filling; that bit, or the byte's first, is told.
-    Filling { bit: usize },
 }
 
-pub impl From<BitFault> for ReadFault as ReadFaultFromBit {
-    ghost converts = { λ e r. r ≡ Bit e };
-
-    fn from(fault: BitFault) -> ReadFault {
-        ReadFault::Bit(fault)
-    }
-}
-
-impl ReadFault {
+impl FieldFault {
     /// The fault's number and place.
     pub fn told(self) -> Told
-        ensures { λ r. ⌜ r ≡ readTold self ⌝ }
+        ensures { λ r. ⌜ r ≡ fieldTold self ⌝ }
     {
         match self {
-            ReadFault::Bit(inner) => inner.told(),
-            ReadFault::Range { bit } => Told::new(2, Place::AtBit(bit)),
-            ReadFault::Filling { bit } => Told::new(3, Place::AtBit(bit)),
+            FieldFault::Range { bit } => Told::new(2, Place::AtBit(bit)),
         }
     }
 }

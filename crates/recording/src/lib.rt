@@ -1,4 +1,5 @@
-//! Recordings of a store's run: the record, and the reader of its file.
+//! Recordings of a store's run: the record, and its limits.
+pub mod check;
 pub mod fault;
-pub mod reader;
+pub mod range;
 pub mod record;

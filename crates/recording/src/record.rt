@@ -1,17 +1,17 @@
-ghost use Rattle.recording.specs.Record.{allZero, carries, kindOf, numberOf};
+ghost use Rattle.recording.specs.Record.{allZero, carries, numberOf};
 ghost use mathlib.Core.Path.{_≡_};
 
-/// The highest code of a kind of lane.
-pub(crate) const MAX_CODE: u16 = 3;
+/// The edition of the layout of files.
+pub const EDITION: u16 = 1;
 
-/// The highest number of an event's kind.
-pub(crate) const MAX_KIND: u16 = 4;
+/// The highest code of a kind of lane.
+pub const MAX_CODE: u16 = 3;
 
 /// The highest order.
-pub(crate) const MAX_ORDER: u16 = 4095;
+pub const MAX_ORDER: u16 = 4095;
 
 /// The highest call number.
-pub(crate) const MAX_CALL: u16 = 511;
+pub const MAX_CALL: u16 = 511;
 
 /// The most stations that a recording has.
 pub const MAX_STATIONS: usize = 8;
@@ -52,19 +52,6 @@ impl EventKind {
             EventKind::PostAnswered => 2,
             EventKind::DrawAnswered => 3,
             EventKind::DrawEmpty => 4,
-        }
-    }
-
-    /// The kind that a number up to 4 stands for.
-    pub(crate) fn from_number(number: u16) -> EventKind
-        ensures { λ r. ⌜ r ≡ kindOf number ⌝ }
-    {
-        match number {
-            0 => EventKind::PostCalled,
-            1 => EventKind::DrawCalled,
-            2 => EventKind::PostAnswered,
-            3 => EventKind::DrawAnswered,
-            _ => EventKind::DrawEmpty,
         }
     }
 

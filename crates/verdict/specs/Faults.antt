@@ -2,7 +2,7 @@
 use Rattle.bits.specs.declared.told.Place.the-variants.{AtEntry, AtEvent, Needs}
 use Rattle.bits.specs.declared.told.Told.{Told}
 use Rattle.bits.specs.Told.{told}
-use Rattle.recording.specs.Faults.{readTold}
+use Rattle.reader.specs.Faults.{readTold}
 use Rattle.verdict.specs.declared.fault.JudgeFault.{JudgeFault}
 use Rattle.verdict.specs.declared.fault.JudgeFault.the-variants.{Read, Busy, Unmatched, PostedBefore, DrawnBefore, NeverPosted, StillOpen, NoLane, Foreign, Repeated, Overtaken, NotAdmitted, LaneFull, Missing}
 use Rattle.verdict.specs.declared.fault.ReportFault.{ReportFault}

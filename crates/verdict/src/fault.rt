@@ -5,8 +5,8 @@ ghost use Rattle.verdict.specs.declared.fault.JudgeFault.the-variants.{Read};
 ghost use mathlib.Core.Path.{_≡_};
 use bits::told::Place;
 use bits::told::Told;
-use recording::fault::ReadFault;
-use recording::fault::ReadFaultDebug;
+use reader::fault::ReadFault;
+use reader::fault::ReadFaultDebug;
 
 /// A fault for which a recording is refused.
 #[derive(Clone, Copy, Debug)]

@@ -1,0 +1,5 @@
+mod Fields
+mod Files
+mod Filling
+mod Many
+mod Stands
