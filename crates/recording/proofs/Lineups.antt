@@ -4,7 +4,7 @@ use mathlib.Core.List.{List, [], _∷_, _++_, map, append-assoc}
 use Prim.Native.Nat.{ℕ, zero, suc, _+_, _-_, _*_, _<_, _≤_}
 use native.Mathlib.Omega.{arith}
 use lib.ListN.{length, take, drop, length-append, length-take, length-drop}
-use lib.Seq.{take-add}
+use lib.Seq.{drop-drop, take-add}
 use Rattle.std.specs.Joined.{joined}
 use Rattle.std.proofs.shelf.Lists.{take-at, drop-at, length-map}
 use Rattle.recording.specs.declared.record.Recording.{Recording}
@@ -47,6 +47,17 @@ pub flat-parts : (ns es : List ℕ) → flat (parts ns es) ≡ take (total ns) e
 unfolding parts total
 flat-parts [] es = refl
 flat-parts (n ∷ ns) es = rw (take-add n (total ns) es) (ap (λ (x : List ℕ). take n es ++ x) (flat-parts ns (drop n es)))
+
+pub total-append : (ns ms : List ℕ) → total (ns ++ ms) ≡ total ns + total ms
+unfolding total
+total-append [] ms = omega arith
+total-append (n ∷ ns) ms = let e = total-append ns ms in omega arith
+
+-- one part more, after those that stand
+pub parts-push : (ns es : List ℕ) (n : ℕ) → parts (ns ++ n ∷ []) es ≡ parts ns es ++ take n (drop (total ns) es) ∷ []
+unfolding parts total
+parts-push [] es n = refl
+parts-push (m ∷ ns) es n = rw (parts-push ns (drop m es) n, drop-drop (total ns) m es)
 
 pub all-split : {A : Type 0} (P : A → Type 0) (xs ys : List A) → All P (xs ++ ys) → All P xs × All P ys
 unfolding All
@@ -91,12 +102,17 @@ module _ (r : Recording) (o : Limits r) where
   pub full-lengths : length (usedLengths r) ≡ r .stations
   full-lengths = front-full maxStations 0 (r .lengths) (r .stations) (o .stations) (o .restLengths)
 
-  pub full-entries : total (usedLengths r) ≤ length (r .entries)
-  full-entries =
+  pub most-entries : total (usedLengths r) ≤ allEntries
+  most-entries =
       let a = total-most (usedLengths r) (o .lengths) in
       let b = full-lengths in
-      let c = padded-long allEntries 0 (r .entries) (total (usedLengths r)) (o .restEntries) in
       let d = o .stations in
+      omega arith
+
+  pub full-entries : total (usedLengths r) ≤ length (r .entries)
+  full-entries =
+      let a = most-entries in
+      let c = padded-long allEntries 0 (r .entries) (total (usedLengths r)) (o .restEntries) in
       omega arith
 
   pub full-lineups : length (lineupsOf r) ≡ r .stations

@@ -34,10 +34,7 @@ headerFields r = bits 4 1 ∷ bits 4 (r .code) ∷ bits 4 (r .stations) ∷ bits
 
 -- kind, station, and the order where the kind carries one
 unfoldable pub eventFields : Event → List Field
-eventFields e =
-    cond (carries (e .kind))
-    (bits 3 (numberOf (e .kind)) ∷ bits 3 (e .station) ∷ bits 12 (e .order) ∷ [])
-    (bits 3 (numberOf (e .kind)) ∷ bits 3 (e .station) ∷ [])
+eventFields e = bits 3 (numberOf (e .kind)) ∷ bits 3 (e .station) ∷ cond (carries (e .kind)) (bits 12 (e .order) ∷ []) []
 
 abbrev pub entryFields : ℕ → List Field
 entryFields c = bits 9 c ∷ []

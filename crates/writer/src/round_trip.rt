@@ -1,0 +1,85 @@
+//! Round trips: what was written is read back, and what was read is written back.
+ghost use Prim.Native.Nat.{_<_};
+ghost use Rattle.bits.specs.Told.{told};
+ghost use Rattle.bits.specs.declared.told.Place.the-variants.{Needs};
+ghost use Rattle.reader.specs.Faults.{readTold};
+ghost use Rattle.reader.specs.Reading.{Faulty, Holds};
+ghost use Rattle.recording.specs.Layout.{IsFile};
+ghost use Rattle.recording.specs.Record.{Limits, allZero};
+ghost use Rattle.std.specs.Results.{Cases};
+ghost use Rattle.writer.specs.Faults.{writeTold};
+ghost use Rattle.writer.specs.Writing.{Unwritten, Written};
+ghost use lib.ListN.{drop, length, take};
+ghost use mathlib.Core.Path.{_≡_};
+use crate::fault::WriteFault;
+use crate::write;
+use reader::fault::ReadFault;
+use reader::read;
+use recording::record::Recording;
+
+/// Reads the file of a recording within the limits.
+fn read_back(recording: &Recording, file: &[u8], again: &mut Recording)
+    requires limits { ⌜ Limits (now recording) ⌝ }
+    requires file { ⌜ IsFile (now file) (now recording) ⌝ }
+    ensures holds { λ _. ⌜ Holds (now (file .entry)) (now (recording .entry)) ⌝ }
+    ensures again { λ _. ⌜ now (again .exit) ≡ now (recording .entry) ⌝ }
+{
+    match read(file, again) {
+        Ok(()) => (),
+        Err(_) => unreachable(),
+    }
+}
+
+/// Writes a recording, and reads what was written: reading it gives the recording back, with no fault.
+pub fn write_then_read(
+    recording: &Recording,
+    buffer: &mut [u8],
+    again: &mut Recording,
+) -> Result<usize, WriteFault>
+    ensures { λ r. ⌜ Cases r
+        (λ size. Written (now (recording .entry)) (now (buffer .entry)) (now (buffer .exit)) size
+        × Holds (take size (now (buffer .exit))) (now (recording .entry))
+        × (now (again .exit) ≡ now (recording .entry)))
+        (λ e. Unwritten (now (recording .entry)) (length (now (buffer .entry))) (writeTold e)
+        × (now (buffer .exit) ≡ now (buffer .entry))
+        × (now (again .exit) ≡ now (again .entry))) ⌝ }
+{
+    let size = write(recording, buffer)?;
+    read_back(recording, &buffer[..size], again);
+    Ok(size)
+}
+
+/// Writes the recording of a file.
+fn write_back(file: &[u8], recording: &Recording, buffer: &mut [u8]) -> Result<usize, WriteFault>
+    requires { ⌜ Holds (now file) (now recording) ⌝ }
+    ensures { λ r. ⌜ Cases r
+        (λ size. (size ≡ length (now (file .entry)))
+        × (take size (now (buffer .exit)) ≡ now (file .entry))
+        × (drop size (now (buffer .exit)) ≡ drop size (now (buffer .entry))))
+        (λ e. (length (now (buffer .entry)) < length (now (file .entry)))
+        × (writeTold e ≡ told 17 (Needs (length (now (file .entry)))))
+        × (now (buffer .exit) ≡ now (buffer .entry))) ⌝ }
+{
+    write(recording, buffer)
+}
+
+/// Reads a file, and writes what was read: writing it gives the file back, byte for byte, if the buffer is long enough. The
+/// outer result is that of the reading, the inner one that of the writing.
+pub fn read_then_write(
+    file: &[u8],
+    recording: &mut Recording,
+    buffer: &mut [u8],
+) -> Result<Result<usize, WriteFault>, ReadFault>
+    ensures { λ r. ⌜ Cases r
+        (λ w. Holds (now (file .entry)) (now (recording .exit)) × Cases w
+            (λ size. (size ≡ length (now (file .entry)))
+            × (take size (now (buffer .exit)) ≡ now (file .entry))
+            × (drop size (now (buffer .exit)) ≡ drop size (now (buffer .entry))))
+            (λ e. (length (now (buffer .entry)) < length (now (file .entry)))
+            × (writeTold e ≡ told 17 (Needs (length (now (file .entry)))))
+            × (now (buffer .exit) ≡ now (buffer .entry))))
+        (λ e. Faulty (now (file .entry)) (readTold e) × (now (recording .exit) ≡ allZero) × (now (buffer .exit) ≡ now (buffer .entry))) ⌝ }
+{
+    read(file, recording)?;
+    Ok(write_back(file, recording, buffer))
+}
