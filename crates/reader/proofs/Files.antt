@@ -25,7 +25,8 @@ use Rattle.recording.specs.Layout.{bits, span, Laid, headerFields, eventFields,
 use Rattle.reader.specs.Reading.{Faulty, Holds, decode, eventAt, fillingAt, headerAt, headerOf, lineupAt, manyAt, recordOf}
 use Rattle.recording.specs.Record.{All, EventOk, Limits, allEntries, parts, lineupsOf, maxCall, maxCode, maxEntries, maxEvents, maxStations, noEvent, padded, total, usedEntries, usedEvents, usedLengths}
 use Rattle.reader.proofs.Fields.{field-within}
-use Rattle.reader.proofs.Stands.{Stands, event-back, event-stands, field-back, field-stands, lineup-back, lineup-stands, many-back, many-stands, ok-parts, same-ok, stands-append}
+use Rattle.reader.proofs.Stands.{Stands, event-back, event-stands, field-back, field-stands, lineup-back, lineup-stands, many-back, many-stands, stands-append}
+use Rattle.recording.proofs.Ranges.{not-both, ok-parts, same-ok}
 use Rattle.recording.proofs.Layouts.{laid-parts, span-append}
 use Rattle.recording.proofs.Lineups.{LineupOk, all-flat, all-lengths, all-parts, flat, flat-parts, full-entries, full-events, full-lengths, full-lineups, lengths, lengths-parts, parts-flat, total-lengths}
 use Rattle.recording.proofs.Padded.{take-padded}

@@ -21,6 +21,7 @@ use Rattle.recording.specs.Ranges.{andThen}
 use Rattle.recording.specs.Record.{All, EventOk, carries, numberOf, event, maxCall, maxEntries, maxOrder}
 use Rattle.recording.proofs.Layouts.{code-most, laid-append, laid-parts, span-append}
 use Rattle.recording.proofs.Lineups.{LineupOk}
+use Rattle.recording.proofs.Ranges.{ok-parts, same-ok}
 use Rattle.reader.specs.Reading.{Reading, entryAt, eventAt, fieldAt, kindOf, lineupAt, manyAt}
 use Rattle.reader.proofs.Fields.{field-in, field-within}
 
@@ -43,15 +44,6 @@ stands-append bs p q r fs gs f g =
       end = omega (arith, g .end);
       room = g .room;
     }
-
--- ---- results
-
-pub ok-parts : {X Y : Type 0} (r : Result X Told) (f : X → Result Y Told) (y : Y) → andThen r f ≡ Ok y → (x : X) × (r ≡ Ok x) × (f x ≡ Ok y)
-ok-parts (Ok x) f y h = (x, refl, h)
-ok-parts {Y = Y} (Err e) f y h = absurd (let z : _≡_ {A = ℕ} 0 1 = cc in let w : ⊥ = omega arith in w)
-
-pub same-ok : {X : Type 0} (x y : X) → _≡_ {A = Result X Told} (Ok x) (Ok y) → x ≡ y
-same-ok x y h = cc
 
 -- ---- a field
 

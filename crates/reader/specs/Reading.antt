@@ -20,7 +20,7 @@ use Rattle.recording.specs.declared.record.EventKind.the-variants.{PostCalled, 
 use Rattle.recording.specs.declared.record.Recording.{Recording}
 use Rattle.recording.specs.Layout.{IsFile, gap}
 use Rattle.recording.specs.Ranges.{andThen, ranged}
-use Rattle.recording.specs.Record.{Limits, allEntries, carries, event, maxCall, maxCode, maxEntries, maxEvents, maxOrder, maxStations, noEvent, padded}
+use Rattle.recording.specs.Record.{Limits, allEntries, carries, event, maxCall, maxCode, maxEntries, maxEvents, maxKind, maxOrder, maxStations, noEvent, padded}
 
 -- what was read and the bit after it, or the fault
 abbrev pub Reading : Type 0 → Type 0
@@ -49,10 +49,6 @@ headerAt bs p =
     andThen (fieldAt bs (code .1) 4 1 maxStations) (λ stations.
     andThen (fieldAt bs (stations .1) 11 0 maxEvents) (λ count.
     Ok (headerOf (code .0) (stations .0) (count .0), count .1)))))
-
--- the highest number of a kind
-abbrev pub maxKind : ℕ
-maxKind = 4
 
 -- the kind of a number up to 4
 unfoldable pub kindOf : ℕ → EventKind

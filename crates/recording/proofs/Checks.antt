@@ -19,30 +19,43 @@ use Rattle.recording.specs.declared.record.Recording.{Recording}
 use Rattle.recording.specs.Layout.{entryFields, eventFields, headerFields, lineupFields, recordFields, span}
 use Rattle.recording.specs.Ranges.{InRange, Outside, Tried, entryTries, eventNumbers, eventTries, headerTries, lineupTries, lineupsTries, manyTries, recordTries, tried, tryAll, unused, usedTries, zeroTries}
 use Rattle.recording.specs.Record.{All, EventOk, Limits, allEntries, carries, lineupsOf, maxCall, maxCode, maxEntries, maxEvents, maxOrder, maxStations, noEvent, numberOf, total, usedEntries, usedEvents, usedLengths}
-use Rattle.recording.proofs.Layouts.{span-append}
+use Rattle.recording.proofs.Layouts.{code-most, span-append}
 use Rattle.recording.proofs.Lineups.{all-append, all-split, total-most}
 use Rattle.recording.proofs.Padded.{padded-back, padded-rest}
-use Rattle.recording.proofs.Tries.{all-inside, first-out, inside-all, not-both, try-past, try-stops}
+use Rattle.recording.proofs.Ranges.{not-both}
+use Rattle.recording.proofs.Tries.{all-inside, first-out, inside-all, try-past, try-stops}
 
 -- ---- events
 
-event-by : (st p : ℕ) (e : Event) (b : Bool) → carries (e .kind) ≡ b → 1 ≤ st → e .station ≤ st - 1
-    → InRange (cond b (tried (p + 6) 0 maxOrder (e .order)) (tried p 0 0 (e .order))) → EventOk st e
-event-by st p e true y some s o = record { station = omega arith; order = o .1; uncarried = λ f. absurd (both-ways (carries (e .kind)) f y) }
-event-by st p e false y some s o = let z = o .1 in record { station = omega arith; order = omega arith; uncarried = λ f. omega arith }
+event-by : (st p : ℕ) (e : Event) (b : Bool) → carries (e .kind) ≡ b → 1 ≤ st → All InRange (eventTries st p e) → EventOk st e
+unfolding eventTries eventFields All
+event-by st p e true y some h =
+    let k = rw y at h in
+    let s = k .1 .0 .1 in
+    record { station = omega arith; order = k .1 .1 .0 .1; uncarried = λ f. absurd (both-ways (carries (e .kind)) f y) }
+event-by st p e false y some h =
+    let k = rw y at h in
+    let s = k .1 .0 .1 in
+    let o = k .1 .1 .0 .1 in
+    record { station = omega arith; order = omega arith; uncarried = λ f. omega arith }
 
 event-inside : (st p : ℕ) (e : Event) → 1 ≤ st → All InRange (eventTries st p e) → EventOk st e
-unfolding eventTries All
-event-inside st p e some h = event-by st p e (carries (e .kind)) refl some (h .0 .1) (h .1 .0)
+event-inside st p e some h = event-by st p e (carries (e .kind)) refl some h
 
-tried-by : (st p : ℕ) (e : Event) (b : Bool) → carries (e .kind) ≡ b → EventOk st e
-    → InRange (cond b (tried (p + 6) 0 maxOrder (e .order)) (tried p 0 0 (e .order)))
-tried-by st p e true y o = (omega arith, o .order)
-tried-by st p e false y o = let z = o .uncarried y in (omega arith, omega arith)
+tried-by : (st p : ℕ) (e : Event) (b : Bool) → carries (e .kind) ≡ b → EventOk st e → All InRange (eventTries st p e)
+unfolding eventTries eventFields All
+tried-by st p e true y o =
+    let k = code-most (e .kind) in
+    let s = o .station in
+    rw y ((omega arith, omega arith), ((omega arith, omega arith), ((omega arith, o .order), tt)))
+tried-by st p e false y o =
+    let k = code-most (e .kind) in
+    let s = o .station in
+    let z = o .uncarried y in
+    rw y ((omega arith, omega arith), ((omega arith, omega arith), ((omega arith, omega arith), tt)))
 
 inside-event : (st p : ℕ) (e : Event) → EventOk st e → All InRange (eventTries st p e)
-unfolding eventTries All
-inside-event st p e o = let s = o .station in ((omega arith, omega arith), (tried-by st p e (carries (e .kind)) refl o, tt))
+inside-event st p e o = tried-by st p e (carries (e .kind)) refl o
 
 events-inside : (st p : ℕ) (es : List Event) → 1 ≤ st → All InRange (manyTries (eventTries st) eventFields p es) → All (EventOk st) es
 unfolding manyTries All
@@ -141,14 +154,14 @@ module _ (r : Recording) where
   unfolding usedTries All
   used-inside h =
       let k = all-split InRange (headerTries r) _ (all-inside _ h) in
-      let m = all-split InRange (manyTries (eventTries (r .stations)) eventFields 23 (usedEvents r)) _ (k .1) in
+      let m = all-split InRange (manyTries (eventTries (r .stations)) eventFields (span (headerFields r)) (usedEvents r)) _ (k .1) in
       let l = lineups-inside _ (usedLengths r) (r .entries) (m .1) in
       record {
-        code = k .0 .0 .1;
-        some = k .0 .1 .0 .0;
-        stations = k .0 .1 .0 .1;
-        count = k .0 .1 .1 .0 .1;
-        events = events-inside (r .stations) 23 (usedEvents r) (k .0 .1 .0 .0) (m .0);
+        code = k .0 .1 .0 .1;
+        some = k .0 .1 .1 .0 .0;
+        stations = k .0 .1 .1 .0 .1;
+        count = k .0 .1 .1 .1 .0 .1;
+        events = events-inside (r .stations) (span (headerFields r)) (usedEvents r) (k .0 .1 .1 .0 .0) (m .0);
         lengths = l .0;
         entries = l .1;
       }
@@ -191,11 +204,11 @@ module _ (r : Recording) where
       let ze : All (λ v. v ≡ 0) (joined eventNumbers (drop (r .count) (r .events))) = rw de (events-all (maxEvents - r .count)) in
       let zn : All (λ v. v ≡ 0) (drop (r .stations) (r .lengths)) = rw dn (zeros-all (maxStations - r .stations)) in
       let zc : All (λ v. v ≡ 0) (drop (total (usedLengths r)) (r .entries)) = rw dc (zeros-all (allEntries - total (usedLengths r))) in
-      let header : All InRange (headerTries r) = ((omega arith, o .code), ((o .some, o .stations), ((omega arith, o .count), tt))) in
+      let header : All InRange (headerTries r) = ((omega arith, omega arith), ((omega arith, o .code), ((o .some, o .stations), ((omega arith, o .count), tt)))) in
       all-append InRange (usedTries r) _
       (all-append InRange (headerTries r) _ header
-      (all-append InRange (manyTries (eventTries (r .stations)) eventFields 23 (usedEvents r)) _
-      (inside-events (r .stations) 23 (usedEvents r) (o .events))
+      (all-append InRange (manyTries (eventTries (r .stations)) eventFields (span (headerFields r)) (usedEvents r)) _
+      (inside-events (r .stations) (span (headerFields r)) (usedEvents r) (o .events))
       (inside-lineups _ (usedLengths r) (r .entries) (o .lengths) (o .entries))))
       (inside-zeros (span (recordFields r)) (unused r)
       (all-append (λ v. v ≡ 0) (joined eventNumbers (drop (r .count) (r .events))) _ ze
@@ -211,7 +224,7 @@ module _ (r : Recording) where
   -- ---- its parts, in their sequence
 
   abbrev pub EventTries : List Tried
-  EventTries = manyTries (eventTries (r .stations)) eventFields 23 (usedEvents r)
+  EventTries = manyTries (eventTries (r .stations)) eventFields (span (headerFields r)) (usedEvents r)
 
   abbrev pub LineupTries : ℕ → List Tried
   LineupTries p = lineupsTries p (usedLengths r) (r .entries)
@@ -225,7 +238,7 @@ module _ (r : Recording) where
     unfolding usedTries
     events-outside t h = used-outside t (try-past (headerTries r) _ a ∙ try-stops EventTries _ t h)
 
-    module _ (b : tryAll EventTries ≡ Ok tt) (p : ℕ) (e : p ≡ 23 + span (joined eventFields (usedEvents r))) where
+    module _ (b : tryAll EventTries ≡ Ok tt) (p : ℕ) (e : p ≡ span (headerFields r) + span (joined eventFields (usedEvents r))) where
       pub lineups-outside : (t : Told) → tryAll (LineupTries p) ≡ Err t → Outside r t
       unfolding usedTries
       lineups-outside t h = used-outside t (try-past (headerTries r) _ a ∙ try-past EventTries _ b ∙ rw e at h)

@@ -4,6 +4,7 @@ use mathlib.Core.List.{List, [], _∷_, _++_}
 use mathlib.Core.Bool.{true, false}
 use Prim.Native.Nat.{ℕ, suc, _+_, _<_, _≤_}
 use native.Mathlib.Omega.{arith}
+use lib.Dec.{lit≤}
 use lib.ListN.{drop, drop-of-length-le, getD, length, take}
 use lib.Seq.{drop-drop}
 use Rattle.std.specs.Joined.{joined}
@@ -16,37 +17,18 @@ use Rattle.bits.specs.declared.told.Place.the-variants.{AtBit}
 use Rattle.bits.specs.declared.told.Told.{Told}
 use Rattle.recording.specs.Layout.{Field, lineupFields, span}
 use Rattle.recording.specs.Ranges.{FirstOut, InRange, Tried, andThen, lineupTries, lineupsTries, manyTries, ranged, tryAll}
-use Rattle.recording.specs.Record.{All, parts, total}
-use Rattle.recording.proofs.Layouts.{span-append}
+use Rattle.recording.specs.declared.record.EventKind.{EventKind}
+use Rattle.recording.specs.Record.{All, maxKind, numberOf, parts, total}
+use Rattle.recording.proofs.Layouts.{code-most, span-append}
+use Rattle.recording.proofs.Ranges.{inside-ranged, not-both, ok-parts, ranged-inside, ranged-told, same-err}
 
--- ---- results
+-- ---- what no record can have out of range
 
-pub ok-parts : {X Y : Type 0} (r : Result X Told) (f : X → Result Y Told) (y : Y) → andThen r f ≡ Ok y → (x : X) × (r ≡ Ok x) × (f x ≡ Ok y)
-ok-parts (Ok x) f y h = (x, refl, h)
-ok-parts {Y = Y} (Err e) f y h = absurd (let z : _≡_ {A = ℕ} 0 1 = cc in let w : ⊥ = omega arith in w)
+pub edition-in : ranged 0 1 1 1 ≡ Ok 1
+edition-in = inside-ranged 0 1 1 1 (lit≤ tt) (lit≤ tt)
 
-pub same-ok : {X : Type 0} (x y : X) → _≡_ {A = Result X Told} (Ok x) (Ok y) → x ≡ y
-same-ok x y h = cc
-
-pub not-both : {X : Type 0} (x : X) (t : Told) → _≡_ {A = Result X Told} (Ok x) (Err t) → ⊥
-not-both x t h = let z : _≡_ {A = ℕ} 0 1 = cc in omega arith
-
-same-err : {X Y : Type 0} (t u : Told) → _≡_ {A = Result X Told} (Err t) (Err u) → _≡_ {A = Result Y Told} (Err t) (Err u)
-same-err {X} {Y} t u h = let e : t ≡ u = cc in ap (λ (x : Told). Err x) e
-
--- ---- one number
-
-ranged-inside : (p lo hi v x : ℕ) → ranged p lo hi v ≡ Ok x → (lo ≤ v) × (v ≤ hi)
-unfolding ranged
-ranged-inside p lo hi v x h = (grind (arith, tells), grind (arith, tells))
-
-inside-ranged : (p lo hi v : ℕ) → lo ≤ v → v ≤ hi → ranged p lo hi v ≡ Ok v
-unfolding ranged
-inside-ranged p lo hi v a b = grind (arith, tells)
-
-ranged-told : (p lo hi v : ℕ) (t : Told) → ranged p lo hi v ≡ Err t → t ≡ told 2 (AtBit p)
-unfolding ranged
-ranged-told p lo hi v t h = grind (arith, tells)
+pub kind-in : (p : ℕ) (k : EventKind) → ranged p 0 maxKind (numberOf k) ≡ Ok (numberOf k)
+kind-in p k = inside-ranged p 0 maxKind (numberOf k) (omega arith) (code-most k)
 
 -- ---- several
 

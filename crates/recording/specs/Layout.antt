@@ -39,9 +39,12 @@ eventFields e = bits 3 (numberOf (e .kind)) ∷ bits 3 (e .station) ∷ cond (ca
 abbrev pub entryFields : ℕ → List Field
 entryFields c = bits 9 c ∷ []
 
+abbrev pub lengthField : ℕ → Field
+lengthField n = bits 10 n
+
 -- length, then the entries
 unfoldable pub lineupFields : List ℕ → List Field
-lineupFields l = bits 10 (length l) ∷ joined entryFields l
+lineupFields l = lengthField (length l) ∷ joined entryFields l
 
 unfoldable pub recordFields : Recording → List Field
 recordFields r = headerFields r ++ (joined eventFields (usedEvents r) ++ joined lineupFields (lineupsOf r))

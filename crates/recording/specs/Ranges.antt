@@ -13,8 +13,8 @@ use Rattle.bits.specs.declared.told.Place.the-variants.{AtBit}
 use Rattle.bits.specs.declared.told.Told.{Told}
 use Rattle.recording.specs.declared.record.Event.{Event}
 use Rattle.recording.specs.declared.record.Recording.{Recording}
-use Rattle.recording.specs.Layout.{Field, entryFields, eventFields, lineupFields, recordFields, span}
-use Rattle.recording.specs.Record.{All, Limits, carries, maxCall, maxCode, maxEntries, maxEvents, maxOrder, maxStations, numberOf, total, usedEvents, usedLengths}
+use Rattle.recording.specs.Layout.{Field, entryFields, eventFields, headerFields, lengthField, lineupFields, recordFields, span}
+use Rattle.recording.specs.Record.{All, Limits, carries, maxCall, maxCode, maxEntries, maxEvents, maxKind, maxOrder, maxStations, numberOf, total, usedEvents, usedLengths}
 
 -- the first result, if it is a fault; else what follows from it
 abbrev pub andThen : {X Y : Type 0} → Result X Told → (X → Result Y Told) → Result Y Told
@@ -37,19 +37,32 @@ pub record Tried : Type 0 where
 abbrev pub tried : ℕ → ℕ → ℕ → ℕ → Tried
 tried p lo hi v = record { bit = p; low = lo; high = hi; value = v }
 
--- code, stations, event count
-abbrev pub headerTries : Recording → List Tried
-headerTries r = tried 4 0 maxCode (r .code) ∷ tried 8 1 maxStations (r .stations) ∷ tried 12 0 maxEvents (r .count) ∷ []
+pub record Range : Type 0 where
+  pub low : ℕ
+  pub high : ℕ
 
--- the station of an event from bit p on, then its order; one that is not carried must be 0, and is told at the kind
+abbrev pub range : ℕ → ℕ → Range
+range lo hi = record { low = lo; high = hi }
+
+-- fields that stand one after the other from bit p on, each with its range, told where it stands
+abbrev pub fieldTries : ℕ → List Field → List Range → List Tried
+fieldTries p [] gs = []
+fieldTries p (f ∷ fs) [] = []
+fieldTries p (f ∷ fs) (g ∷ gs) = tried p (g .low) (g .high) (f .value) ∷ fieldTries (p + f .width) fs gs
+
+-- edition, code, stations, event count
+abbrev pub headerTries : Recording → List Tried
+headerTries r = fieldTries 0 (headerFields r) (range 1 1 ∷ range 0 maxCode ∷ range 1 maxStations ∷ range 0 maxEvents ∷ [])
+
+-- an event from bit p on: kind, station, and the order where the kind carries one; an order that is not carried must be
+-- 0, comes after the station, and is told at the kind
 unfoldable pub eventTries : ℕ → ℕ → Event → List Tried
 eventTries stations p e =
-    tried (p + 3) 0 (stations - 1) (e .station)
-    ∷ cond (carries (e .kind)) (tried (p + 6) 0 maxOrder (e .order)) (tried p 0 0 (e .order))
-    ∷ []
+    fieldTries p (eventFields e) (range 0 maxKind ∷ range 0 (stations - 1) ∷ range 0 maxOrder ∷ [])
+    ++ cond (carries (e .kind)) [] (tried p 0 0 (e .order) ∷ [])
 
 abbrev pub entryTries : ℕ → ℕ → List Tried
-entryTries p c = tried p 0 maxCall c ∷ []
+entryTries p c = fieldTries p (entryFields c) (range 0 maxCall ∷ [])
 
 -- items whose fields follow one another from bit p on
 unfoldable pub manyTries : {A : Type 0} → (ℕ → A → List Tried) → (A → List Field) → ℕ → List A → List Tried
@@ -58,7 +71,9 @@ manyTries tries fields p (x ∷ xs) = tries p x ++ manyTries tries fields (p + s
 
 -- a line-up from bit p on: its length n, and the first n of the entries es
 unfoldable pub lineupTries : ℕ → ℕ → List ℕ → List Tried
-lineupTries p n es = tried p 0 maxEntries n ∷ manyTries entryTries entryFields (p + 10) (take n es)
+lineupTries p n es =
+    fieldTries p (lengthField n ∷ []) (range 0 maxEntries ∷ [])
+    ++ manyTries entryTries entryFields (p + lengthField n .width) (take n es)
 
 -- line-ups of these lengths, one after the other
 unfoldable pub lineupsTries : ℕ → List ℕ → List ℕ → List Tried
@@ -80,8 +95,8 @@ zeroTries p vs = map (λ v. tried p 0 0 v) vs
 unfoldable pub usedTries : Recording → List Tried
 usedTries r =
     headerTries r
-    ++ (manyTries (eventTries (r .stations)) eventFields 23 (usedEvents r)
-    ++ lineupsTries (23 + span (joined eventFields (usedEvents r))) (usedLengths r) (r .entries))
+    ++ (manyTries (eventTries (r .stations)) eventFields (span (headerFields r)) (usedEvents r)
+    ++ lineupsTries (span (headerFields r) + span (joined eventFields (usedEvents r))) (usedLengths r) (r .entries))
 
 -- and last the places not in use, told at the bit after the last entry
 unfoldable pub recordTries : Recording → List Tried

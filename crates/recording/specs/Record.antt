@@ -9,10 +9,13 @@ use Rattle.recording.specs.declared.record.EventKind.the-variants.{PostCalled,
 use Rattle.recording.specs.declared.record.Event.{Event}
 use Rattle.recording.specs.declared.record.Recording.{Recording}
 
--- the highest code of a kind of lane, the most stations, events, entries of one line-up and entries of all, the
+-- the highest code of a kind of lane and number of a kind of event, the most stations, events, entries of one line-up and entries of all, the
 -- highest order and call number
 abbrev pub maxCode : ℕ
 maxCode = 3
+
+abbrev pub maxKind : ℕ
+maxKind = 4
 
 abbrev pub maxStations : ℕ
 maxStations = 8

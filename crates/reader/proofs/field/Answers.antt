@@ -8,6 +8,7 @@ use Rattle.std.specs.declared.result.Result.the-variants.{Ok, Err}
 use Rattle.bits.specs.Widths.{bitsOf}
 use Rattle.bits.proofs.Widths.{bitsOf-most}
 use Rattle.recording.specs.Ranges.{andThen}
+use Rattle.recording.proofs.Ranges.{ranged-in, ranged-out}
 use Rattle.reader.proofs.Fields.{field-ends, field-here}
 use Rattle.reader.proofs.field.Needs as need
 
@@ -27,7 +28,7 @@ pub returns-in-Break-value : need.returns-in-Break-value
 returns-in-Break-value c =
     let p = err-from-errBy (c .from-residual-in-Break-value .result) (c .from-residual-in-Break-value .ensures .1) in
     let h = c .in-Continue-taken .ensures tt in
-    let e = c .in-Break-value .ensures tt in
+    let e = ranged-out _ _ _ _ _ (c .in-Break-value .ensures tt) in
     rw (p .1, p .2) (record {
       bytes = h .bytes;
       near = omega (arith, h .result .1);
@@ -42,5 +43,5 @@ returns c =
     record {
       bytes = h .bytes;
       near = omega (arith, h .result .1);
-      result = (rw (here, ← c .place-bit .ensures, v .0) (rw (c .place-bit .ensures, h .result .1)), omega (arith, v), omega (arith, v));
+      result = (rw (here, ← c .place-bit .ensures, ranged-in _ _ _ _ _ v) (rw (c .place-bit .ensures, h .result .1)), omega (arith, v), omega (arith, v));
     }

@@ -1,25 +1,27 @@
 use mathlib.Core.Path.{_≡_}
 use Rattle.std.proofs.shelf.Results.{err-from-errBy}
 use Rattle.recording.specs.Ranges.{tryAll}
+use Rattle.recording.proofs.Ranges.{ranged-in, ranged-out}
+use Rattle.recording.proofs.Tries.{edition-in}
 use Rattle.recording.proofs.check.check_header.Needs as need
 
 pub returns-in-Break-ranged : need.returns-in-Break-ranged
 unfolding tryAll
 returns-in-Break-ranged c =
     let r = err-from-errBy (c .from-residual .result) (c .from-residual .ensures .1) in
-    rw (r .1, r .2, c .in-Break-ranged .ensures tt)
+    rw (r .1, r .2, edition-in, ranged-out _ _ _ _ _ (c .in-Break-ranged .ensures tt))
 
 pub returns-in-Break-ranged-2 : need.returns-in-Break-ranged-2
 unfolding tryAll
 returns-in-Break-ranged-2 c =
     let r = err-from-errBy (c .from-residual-in-Break-ranged-2 .result) (c .from-residual-in-Break-ranged-2 .ensures .1) in
-    rw (r .1, r .2, c .in-Continue-ranged .ensures tt .0, c .in-Break-ranged-2 .ensures tt)
+    rw (r .1, r .2, edition-in, ranged-in _ _ _ _ _ (c .in-Continue-ranged .ensures tt), ranged-out _ _ _ _ _ (c .in-Break-ranged-2 .ensures tt))
 
 pub returns-in-Break-ranged-3 : need.returns-in-Break-ranged-3
 unfolding tryAll
 returns-in-Break-ranged-3 c =
     let r = err-from-errBy (c .from-residual-in-Break-ranged-3 .result) (c .from-residual-in-Break-ranged-3 .ensures .1) in
-    rw (r .1, r .2, c .in-Continue-ranged .ensures tt .0, c .in-Continue-ranged-2 .ensures tt .0, c .in-Break-ranged-3 .ensures tt)
+    rw (r .1, r .2, edition-in, ranged-in _ _ _ _ _ (c .in-Continue-ranged .ensures tt), ranged-in _ _ _ _ _ (c .in-Continue-ranged-2 .ensures tt), ranged-out _ _ _ _ _ (c .in-Break-ranged-3 .ensures tt))
 
 pub returns : need.returns
 unfolding tryAll
@@ -27,4 +29,4 @@ returns c =
     let a = c .in-Continue-ranged .ensures tt in
     let b = c .in-Continue-ranged-2 .ensures tt in
     let d = c .in-Continue-ranged-3 .ensures tt in
-    (rw (a .0, b .0, d .0), b .2, b .3, d .3)
+    (rw (edition-in, ranged-in _ _ _ _ _ a, ranged-in _ _ _ _ _ b, ranged-in _ _ _ _ _ d), b .1, b .2, d .2)

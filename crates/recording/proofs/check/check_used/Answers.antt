@@ -4,6 +4,7 @@ use mathlib.Core.Path.{_≡_, sym, _∙_}
 use Prim.Native.Nat.{_-_}
 use lib.ListN.{length-take}
 use Rattle.std.proofs.shelf.Results.{cases-weaker, err-from-errBy}
+use Rattle.recording.specs.Layout.{span}
 use Rattle.recording.proofs.Checks.{all-used, bits-used, events-outside, header-outside, lineups-outside}
 use Rattle.recording.proofs.check.check_used.Needs as need
 
@@ -22,6 +23,7 @@ check-events-requires c κs =
     record { stations = h .1; few = omega (arith, n, h .3); countable = omega arith }
 
 pub returns-in-Break-bit : need.returns-in-Break-bit
+unfolding span
 returns-in-Break-bit c =
     let r = err-from-errBy (c .from-residual-in-Break-bit .result) (c .from-residual-in-Break-bit .ensures .1) in
     let h = c .in-Continue-check-header .ensures tt in
@@ -39,6 +41,7 @@ check-lineups-requires c κs =
     record { few = omega (arith, m, h .2); countable = omega (arith, b .2, n, h .3) }
 
 pub returns : need.returns
+unfolding span
 returns c =
     let h = c .in-Continue-check-header .ensures tt in
     let n = length-take (c .args .recording .now .count) (c .args .recording .now .events) in
