@@ -1,6 +1,10 @@
 //! Files and the lines that are told of them.
 use super::*;
+use bits::told::Place;
+use recording::record::Event;
+use recording::record::EventKind;
 use std::test::*;
+use writer::write;
 
 /// A post of 5 at the only station, answered, and a draw that gave 5; the line-up names both calls.
 const SAMPLE: [u8; 13] = [
@@ -40,6 +44,73 @@ fn reads_the_sample() -> Result<(), Fail> {
     check(events[2].kind.number() == 1 && events[2].station == 0 && events[2].order == 0)?;
     check(events[3].kind.number() == 3 && events[3].station == 0 && events[3].order == 5)?;
     check(recording.lengths[0] == 2 && recording.entries[0] == 0 && recording.entries[1] == 1)
+}
+
+/// The event of a kind at station 0, with that order.
+fn event(kind: EventKind, order: u16) -> Event {
+    Event {
+        kind,
+        station: 0,
+        order,
+    }
+}
+
+/// The recording of the sample.
+fn sample() -> Recording {
+    let mut recording = Recording::zero();
+    recording.code = 1;
+    recording.stations = 1;
+    recording.count = 4;
+    recording.events[0] = event(EventKind::PostCalled, 5);
+    recording.events[1] = event(EventKind::PostAnswered, 0);
+    recording.events[2] = event(EventKind::DrawCalled, 0);
+    recording.events[3] = event(EventKind::DrawAnswered, 5);
+    recording.lengths[0] = 2;
+    recording.entries[1] = 1;
+    recording
+}
+
+#[test]
+fn writes_the_sample() -> Result<(), Fail> {
+    let mut buffer = [0xFF; 15];
+    match write(&sample(), &mut buffer) {
+        Ok(size) => check_eq(size, 13)?,
+        Err(_) => return Err(Fail::new("it is refused")),
+    }
+    check(&buffer[0..13] == &SAMPLE)?;
+    check_eq(buffer[13], 0xFF)?;
+    check_eq(buffer[14], 0xFF)
+}
+
+/// Checks that writing into 12 bytes is refused by that number at that place, and leaves them.
+fn refuses(recording: &Recording, number: usize, place: usize) -> Result<(), Fail> {
+    let mut buffer = [0xFF; 12];
+    let told = match write(recording, &mut buffer) {
+        Ok(_) => return Err(Fail::new("it is written")),
+        Err(fault) => fault.told(),
+    };
+    check(buffer == [0xFF; 12])?;
+    check_eq(told.number, number)?;
+    match told.place {
+        Place::AtBit(bit) => check_eq(bit, place),
+        Place::Needs(size) => check_eq(size, place),
+        _ => Err(Fail::new("it is told elsewhere")),
+    }
+}
+
+#[test]
+fn tells_why_it_does_not_write() -> Result<(), Fail> {
+    refuses(&sample(), 17, 13)?;
+    refuses(&Recording::zero(), 2, 8)?;
+    let mut recording = sample();
+    recording.lengths[7] = 1;
+    refuses(&recording, 2, 99)?;
+    recording.entries[1] = 512;
+    refuses(&recording, 2, 90)?;
+    recording.events[1].order = 1;
+    refuses(&recording, 2, 41)?;
+    recording.events[0].order = 4096;
+    refuses(&recording, 2, 29)
 }
 
 #[test]

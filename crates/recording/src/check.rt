@@ -117,7 +117,11 @@ fn check_lineup(length: u16, entries: &[u16; ALL_ENTRIES], start: End) -> Result
 }
 
 /// Tries line-ups of these lengths, one after the other.
-fn check_lineups(lengths: &[u16], entries: &[u16; ALL_ENTRIES], bit: usize) -> Result<End, FieldFault>
+fn check_lineups(
+    lengths: &[u16],
+    entries: &[u16; ALL_ENTRIES],
+    bit: usize,
+) -> Result<End, FieldFault>
     requires few { ⌜ length (now lengths) ≤ maxStations ⌝ }
     requires countable { ⌜ bit < 2 ^ 57 ⌝ }
     ensures { λ r. ⌜ Cases r

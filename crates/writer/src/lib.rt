@@ -16,10 +16,10 @@ ghost use Rattle.writer.specs.Writing.{Unwritten, Written, fileSize};
 ghost use lib.ListN.{length};
 ghost use mathlib.Core.List.{[], _∷_};
 ghost use mathlib.Core.Path.{_≡_};
-use bits::set::set;
-use bits::width::Width;
 use crate::fault::WriteFault;
 use crate::fault::WriteFaultFromField;
+use bits::set::set;
+use bits::width::Width;
 use recording::check::check;
 use recording::record::ALL_ENTRIES;
 use recording::record::EDITION;
@@ -96,7 +96,12 @@ fn lay_lineup(lineup: &[u16], bytes: &mut [u8], place: usize) -> usize
 }
 
 /// Lays out line-ups of these lengths, which stand one after the other in the entries.
-fn lay_lineups(lengths: &[u16], entries: &[u16; ALL_ENTRIES], bytes: &mut [u8], place: usize) -> usize
+fn lay_lineups(
+    lengths: &[u16],
+    entries: &[u16; ALL_ENTRIES],
+    bytes: &mut [u8],
+    place: usize,
+) -> usize
     requires ready { ⌜ Ready (length (now bytes)) place (joined lineupFields (parts (now lengths) (now entries))) ⌝ }
     requires there { ⌜ total (now lengths) ≤ allEntries ⌝ }
     ensures { λ end. ⌜ Wrote (now (bytes .entry)) (now (bytes .exit)) place end (joined lineupFields (parts (now (lengths .entry)) (now (entries .entry)))) ⌝ }

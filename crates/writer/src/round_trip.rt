@@ -72,12 +72,12 @@ pub fn read_then_write(
 ) -> Result<Result<usize, WriteFault>, ReadFault>
     ensures { λ r. ⌜ Cases r
         (λ w. Holds (now (file .entry)) (now (recording .exit)) × Cases w
-            (λ size. (size ≡ length (now (file .entry)))
-            × (take size (now (buffer .exit)) ≡ now (file .entry))
-            × (drop size (now (buffer .exit)) ≡ drop size (now (buffer .entry))))
-            (λ e. (length (now (buffer .entry)) < length (now (file .entry)))
-            × (writeTold e ≡ told 17 (Needs (length (now (file .entry)))))
-            × (now (buffer .exit) ≡ now (buffer .entry))))
+        (λ size. (size ≡ length (now (file .entry)))
+        × (take size (now (buffer .exit)) ≡ now (file .entry))
+        × (drop size (now (buffer .exit)) ≡ drop size (now (buffer .entry))))
+        (λ e. (length (now (buffer .entry)) < length (now (file .entry)))
+        × (writeTold e ≡ told 17 (Needs (length (now (file .entry)))))
+        × (now (buffer .exit) ≡ now (buffer .entry))))
         (λ e. Faulty (now (file .entry)) (readTold e) × (now (recording .exit) ≡ allZero) × (now (buffer .exit) ≡ now (buffer .entry))) ⌝ }
 {
     read(file, recording)?;
