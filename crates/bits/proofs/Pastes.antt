@@ -107,7 +107,7 @@ module _ (bs : List ℕ) (f n : ℕ) where
       ]
 
 -- the window of the w bits at p, with the lowest bits of v in their place
-abbrev pub pasting : List ℕ → ℕ → ℕ → ℕ → ℕ
+abbrev pasting : List ℕ → ℕ → ℕ → ℕ → ℕ
 pasting bs p w v = spliced (spelled bs (8 * (p / 8)) 24) (v % 2 ^ w) w (24 - p % 8 - w)
 
 pub pasted : (bs : List ℕ) (p w v : ℕ) → w ≤ 12 → p + w ≤ 8 * length bs → Overwritten bs (written bs (p / 8) (pasting bs p w v)) p w (v % 2 ^ w)

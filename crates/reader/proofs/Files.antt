@@ -23,12 +23,12 @@ use Rattle.recording.specs.declared.record.Event.{Event}
 use Rattle.recording.specs.declared.record.Recording.{Recording}
 use Rattle.recording.specs.Layout.{bits, span, Laid, headerFields, eventFields, lineupFields, recordFields, gap, IsFile}
 use Rattle.reader.specs.Reading.{Faulty, Holds, decode, eventAt, fillingAt, headerAt, headerOf, lineupAt, manyAt, recordOf}
-use Rattle.recording.specs.Record.{All, EventOk, Limits, allEntries, parts, lineupsOf, maxCall, maxCode, maxEntries, maxEvents, maxStations, noEvent, padded, total, usedEntries, usedEvents, usedLengths}
+use Rattle.recording.specs.Record.{EventOk, Limits, allEntries, lineupsOf, maxCode, maxEvents, maxStations, noEvent, padded, usedEntries, usedEvents, usedLengths}
 use Rattle.reader.proofs.Fields.{field-within}
 use Rattle.reader.proofs.Stands.{Stands, event-back, event-stands, field-back, field-stands, lineup-back, lineup-stands, many-back, many-stands, stands-append}
 use Rattle.recording.proofs.Ranges.{not-both, ok-parts, same-ok}
 use Rattle.recording.proofs.Layouts.{laid-parts, span-append}
-use Rattle.recording.proofs.Lineups.{LineupOk, all-flat, all-lengths, all-parts, flat, flat-parts, full-entries, full-events, full-lengths, full-lineups, lengths, lengths-parts, parts-flat, total-lengths}
+use Rattle.recording.proofs.Lineups.{LineupOk, all-flat, all-lengths, all-parts, flat, flat-parts, full-entries, full-events, full-lineups, lengths, lengths-parts, parts-flat, total-lengths}
 use Rattle.recording.proofs.Padded.{take-padded}
 
 -- ---- the filling
@@ -226,4 +226,4 @@ holds bs r h =
     }
 
 pub faulty : (bs : List ℕ) (t : Told) → decode bs ≡ Err t → Faulty bs t
-faulty bs t h = record { decoded = h; none = λ x o f. (let d = file-decoded bs x o f in let z : _≡_ {A = ℕ} 0 1 = cc in omega arith) }
+faulty bs t h = record { decoded = h; none = λ x o f. not-both x t (sym (file-decoded bs x o f) ∙ h) }

@@ -9,10 +9,8 @@ use lib.Dec.{lit≤}
 use lib.ListN.{length}
 use Rattle.std.specs.Joined.{joined}
 use Rattle.std.proofs.shelf.Tests.{both-ways}
-use Rattle.std.specs.declared.result.Result.{Result}
-use Rattle.std.specs.declared.result.Result.the-variants.{Ok, Err}
+use Rattle.std.specs.declared.result.Result.the-variants.{Ok}
 use Rattle.bits.specs.Bits.{spelled}
-use Rattle.bits.specs.declared.told.Told.{Told}
 use Rattle.recording.specs.declared.record.Event.{Event}
 use Rattle.recording.specs.declared.record.EventKind.{EventKind}
 use Rattle.recording.specs.declared.record.EventKind.the-variants.{PostCalled, DrawCalled, PostAnswered, DrawAnswered, DrawEmpty}
@@ -31,7 +29,7 @@ pub record Stands (bs : List ℕ) (p q : ℕ) (fs : List Field) : Type 0 where
   pub end : q ≡ p + span fs
   pub room : q ≤ 8 * length bs
 
-pub stands-none : (bs : List ℕ) (p : ℕ) → p ≤ 8 * length bs → Stands bs p p []
+stands-none : (bs : List ℕ) (p : ℕ) → p ≤ 8 * length bs → Stands bs p p []
 unfolding span Laid
 stands-none bs p h = record { laid = tt; end = sym (add-zero p); room = h }
 
@@ -89,7 +87,7 @@ module _ {A : Type 0} (bs : List ℕ) (item : ℕ → Reading A) (fields : A →
 
 -- ---- an event
 
-pub kind-code : (k : EventKind) → kindOf (numberOf k) ≡ k
+kind-code : (k : EventKind) → kindOf (numberOf k) ≡ k
 unfolding kindOf
 kind-code PostCalled = refl
 kind-code DrawCalled = refl
@@ -97,7 +95,7 @@ kind-code PostAnswered = refl
 kind-code DrawAnswered = refl
 kind-code DrawEmpty = refl
 
-pub code-kind : (n : ℕ) → n ≤ 4 → numberOf (kindOf n) ≡ n
+code-kind : (n : ℕ) → n ≤ 4 → numberOf (kindOf n) ≡ n
 unfolding kindOf
 code-kind zero h = refl
 code-kind (suc zero) h = refl

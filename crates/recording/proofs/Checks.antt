@@ -1,11 +1,10 @@
 -- A record passes its ranges exactly when it is within the limits.
 use mathlib.Core.Path.{_≡_, refl, sym, ap, _∙_}
-use mathlib.Core.List.{List, [], _∷_, _++_, map}
-use mathlib.Core.Bool.{Bool, true, false, cond}
-use Prim.Native.Nat.{ℕ, zero, suc, _+_, _-_, _*_, _<_, _≤_}
+use mathlib.Core.List.{List, [], _∷_, _++_}
+use mathlib.Core.Bool.{Bool, true, false}
+use Prim.Native.Nat.{ℕ, zero, suc, _+_, _-_, _≤_}
 use native.Mathlib.Omega.{arith}
-use lib.Dec.{lit≤}
-use lib.ListN.{length, take, drop, replicate, length-drop, length-take, take-append-drop}
+use lib.ListN.{length, take, drop, replicate, length-take}
 use lib.Seq.{take-add}
 use Rattle.std.specs.Joined.{joined}
 use Rattle.std.specs.declared.result.Result.the-variants.{Ok, Err}
@@ -18,7 +17,7 @@ use Rattle.recording.specs.declared.record.EventKind.the-variants.{PostCalled,
 use Rattle.recording.specs.declared.record.Recording.{Recording}
 use Rattle.recording.specs.Layout.{entryFields, eventFields, headerFields, lineupFields, recordFields, span}
 use Rattle.recording.specs.Ranges.{InRange, Outside, Tried, entryTries, eventNumbers, eventTries, headerTries, lineupTries, lineupsTries, manyTries, recordTries, tried, tryAll, unused, usedTries, zeroTries}
-use Rattle.recording.specs.Record.{All, EventOk, Limits, allEntries, carries, lineupsOf, maxCall, maxCode, maxEntries, maxEvents, maxOrder, maxStations, noEvent, numberOf, total, usedEntries, usedEvents, usedLengths}
+use Rattle.recording.specs.Record.{All, EventOk, Limits, allEntries, carries, lineupsOf, maxCall, maxCode, maxEntries, maxEvents, maxStations, noEvent, numberOf, total, usedEntries, usedEvents, usedLengths}
 use Rattle.recording.proofs.Layouts.{code-most, span-append}
 use Rattle.recording.proofs.Lineups.{all-append, all-split, total-most}
 use Rattle.recording.proofs.Padded.{padded-back, padded-rest}
@@ -173,7 +172,7 @@ module _ (r : Recording) where
       let c = u .stations in
       omega arith
 
-  pub used-limits : length (r .events) ≡ maxEvents → length (r .lengths) ≡ maxStations → length (r .entries) ≡ allEntries
+  used-limits : length (r .events) ≡ maxEvents → length (r .lengths) ≡ maxStations → length (r .entries) ≡ allEntries
       → Used r → tryAll (recordTries r) ≡ Ok tt → Limits r
   unfolding recordTries
   used-limits le ln lc u h =
@@ -223,10 +222,10 @@ module _ (r : Recording) where
 
   -- ---- its parts, in their sequence
 
-  abbrev pub EventTries : List Tried
+  abbrev EventTries : List Tried
   EventTries = manyTries (eventTries (r .stations)) eventFields (span (headerFields r)) (usedEvents r)
 
-  abbrev pub LineupTries : ℕ → List Tried
+  abbrev LineupTries : ℕ → List Tried
   LineupTries p = lineupsTries p (usedLengths r) (r .entries)
 
   pub header-outside : (t : Told) → tryAll (headerTries r) ≡ Err t → Outside r t

@@ -2,7 +2,7 @@
 use mathlib.Core.List.{List, [], _∷_, _++_}
 use mathlib.Core.Logic.{inl, inr}
 use mathlib.Core.Path.{_≡_, sym, _∙_}
-use Prim.Native.Nat.{ℕ, _+_, _*_, _<_, _≤_}
+use Prim.Native.Nat.{ℕ, _+_, _<_, _≤_}
 use native.Mathlib.Omega.{arith}
 use native.Mathlib.Nat.{add-zero, add-assoc}
 use lib.Dec.{lit≤}
@@ -41,7 +41,7 @@ laid-same bs cs p (f ∷ fs) h l = (
 )
 
 -- where the same fields stand, the bits are the same
-pub laid-inj : (bs cs : List ℕ) (p : ℕ) (fs : List Field) → Laid bs p fs → Laid cs p fs → (k : ℕ) → p ≤ k → k < p + span fs → bitAt bs k ≡ bitAt cs k
+laid-inj : (bs cs : List ℕ) (p : ℕ) (fs : List Field) → Laid bs p fs → Laid cs p fs → (k : ℕ) → p ≤ k → k < p + span fs → bitAt bs k ≡ bitAt cs k
 unfolding span Laid
 laid-inj bs cs p [] h l k a b = absurd (let z : ⊥ = omega arith in z)
 laid-inj bs cs p (f ∷ fs) h l k a b =

@@ -1,14 +1,14 @@
 -- Line-ups and the flat list of their entries; the places in use of a record within the limits.
-use mathlib.Core.Path.{_≡_, refl, sym, ap, _∙_}
+use mathlib.Core.Path.{_≡_, refl, ap, _∙_}
 use mathlib.Core.List.{List, [], _∷_, _++_, map, append-assoc}
-use Prim.Native.Nat.{ℕ, zero, suc, _+_, _-_, _*_, _<_, _≤_}
+use Prim.Native.Nat.{ℕ, _+_, _-_, _*_, _≤_}
 use native.Mathlib.Omega.{arith}
 use lib.ListN.{length, take, drop, length-append, length-take, length-drop}
 use lib.Seq.{drop-drop, take-add}
 use Rattle.std.specs.Joined.{joined}
 use Rattle.std.proofs.shelf.Lists.{take-at, drop-at, length-map}
 use Rattle.recording.specs.declared.record.Recording.{Recording}
-use Rattle.recording.specs.Record.{All, Limits, allEntries, parts, lineupsOf, maxCall, maxEntries, maxEvents, maxStations, noEvent, padded, total, usedEvents, usedLengths}
+use Rattle.recording.specs.Record.{All, Limits, allEntries, parts, lineupsOf, maxCall, maxEntries, maxEvents, maxStations, noEvent, total, usedEvents, usedLengths}
 use Rattle.recording.proofs.Padded.{front-full, padded-long}
 
 -- a line-up within the limits

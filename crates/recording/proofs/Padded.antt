@@ -43,7 +43,7 @@ module _ {A : Type 0} (n : ℕ) (z : A) where
   unfolding padded
   take-padded xs k l = take-at xs (replicate (n - length xs) z) k l
 
-  pub length-padded : (xs : List A) → length (padded n z xs) ≡ length xs + (n - length xs)
+  length-padded : (xs : List A) → length (padded n z xs) ≡ length xs + (n - length xs)
   unfolding padded
   length-padded xs = simp (length-append, length-replicate)
 

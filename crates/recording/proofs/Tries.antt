@@ -1,8 +1,7 @@
 -- Ranges tried one after the other.
 use mathlib.Core.Path.{_≡_, refl, sym, ap, _∙_}
 use mathlib.Core.List.{List, [], _∷_, _++_}
-use mathlib.Core.Bool.{true, false}
-use Prim.Native.Nat.{ℕ, suc, _+_, _<_, _≤_}
+use Prim.Native.Nat.{ℕ, _+_, _<_, _≤_}
 use native.Mathlib.Omega.{arith}
 use lib.Dec.{lit≤}
 use lib.ListN.{drop, drop-of-length-le, getD, length, take}
@@ -12,8 +11,6 @@ use Rattle.std.specs.declared.result.Result.{Result}
 use Rattle.std.specs.declared.result.Result.the-variants.{Ok, Err}
 use Rattle.std.proofs.shelf.Lists.{drop-more}
 use Rattle.std.proofs.shelf.Ways.{tells}
-use Rattle.bits.specs.Told.{told}
-use Rattle.bits.specs.declared.told.Place.the-variants.{AtBit}
 use Rattle.bits.specs.declared.told.Told.{Told}
 use Rattle.recording.specs.Layout.{Field, lineupFields, span}
 use Rattle.recording.specs.Ranges.{FirstOut, InRange, Tried, andThen, lineupTries, lineupsTries, manyTries, ranged, tryAll}

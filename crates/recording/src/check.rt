@@ -2,7 +2,7 @@
 //!
 //! What a record holds is tried in the sequence of its file, and a fault is told at the bit where the field would stand. So
 //! each function here is told the bit at which its part of the file begins, and gives the bit after that part.
-ghost use Prim.Native.Nat.{ℕ, _+_, _*_, _<_, _≤_, _^_};
+ghost use Prim.Native.Nat.{_+_, _*_, _<_, _≤_, _^_};
 ghost use Rattle.recording.specs.Faults.{fieldTold};
 ghost use Rattle.recording.specs.Layout.{entryFields, eventFields, lineupFields, recordFields, span};
 ghost use Rattle.recording.specs.Ranges.{Outside, entryTries, eventNumbers, eventTries, headerTries, lineupTries, lineupsTries, manyTries, tryAll, usedTries, zeroTries};

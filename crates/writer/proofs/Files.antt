@@ -1,5 +1,5 @@
 -- The fields of a recording within the limits fit, and laid out with their filling they are its file.
-use mathlib.Core.Path.{_≡_, refl, sym, ap, _∙_}
+use mathlib.Core.Path.{_≡_, refl, _∙_}
 use mathlib.Core.List.{List, [], _∷_, _++_}
 use mathlib.Core.Bool.{Bool, true, false, cond}
 use mathlib.Core.Logic.{inl, inr}
@@ -13,8 +13,8 @@ use Rattle.bits.specs.Bits.{spelled}
 use Rattle.bits.proofs.Spells.{spelled-split}
 use Rattle.recording.specs.declared.record.Event.{Event}
 use Rattle.recording.specs.declared.record.Recording.{Recording}
-use Rattle.recording.specs.Layout.{Field, IsFile, Laid, bits, entryFields, eventFields, gap, headerFields, lineupFields, recordFields, span}
-use Rattle.recording.specs.Record.{All, EventOk, Limits, carries, lineupsOf, maxCall, numberOf, usedEvents, usedLengths}
+use Rattle.recording.specs.Layout.{IsFile, Laid, bits, entryFields, eventFields, gap, headerFields, lineupFields, recordFields, span}
+use Rattle.recording.specs.Record.{All, EventOk, Limits, carries, lineupsOf, maxCall, usedEvents, usedLengths}
 use Rattle.recording.proofs.Layouts.{code-most, laid-same, span-append}
 use Rattle.recording.proofs.Lineups.{LineupOk, all-append, all-parts, full-entries}
 use Rattle.writer.specs.Laying.{Fits, Ready, Wrote, fillingFields}

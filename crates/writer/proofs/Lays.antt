@@ -1,16 +1,17 @@
 -- Fields written one after the other.
 use mathlib.Core.Path.{_≡_, refl, sym, ap, _∙_}
 use mathlib.Core.List.{List, [], _∷_, _++_}
-use mathlib.Core.Logic.{_⊎_, inl, inr}
-use Prim.Native.Nat.{ℕ, suc, _+_, _-_, _*_, _<_, _≤_}
-use native.Mathlib.Nat.{add-zero}
+use mathlib.Core.Logic.{inl, inr}
+use Prim.Native.Nat.{ℕ, suc, _+_, _-_, _%_, _^_, _<_, _≤_}
+use native.Mathlib.Nat.{add-zero, mod-eq-of-lt}
 use native.Mathlib.Omega.{arith}
 use lib.ListN.{drop, getD, length, replicate, take, take-append-drop}
 use lib.Seq.{drop-drop}
 use Rattle.std.specs.Joined.{joined}
 use Rattle.std.proofs.shelf.Lists.{drop-more, joined-more, replicate-more, take-all, take-more}
+use Rattle.bits.specs.Bits.{Overwritten}
 use Rattle.recording.specs.Layout.{Field, Laid, bits, lineupFields, span}
-use Rattle.recording.specs.Record.{All, parts, total}
+use Rattle.recording.specs.Record.{parts, total}
 use Rattle.recording.proofs.Layouts.{laid-append, laid-same, span-append}
 use Rattle.recording.proofs.Lineups.{all-split, parts-push, total-append}
 use Rattle.writer.specs.Laying.{Fits, Ready, Wrote}
@@ -18,6 +19,17 @@ use Rattle.writer.specs.Laying.{Fits, Ready, Wrote}
 pub wrote-none : (bs : List ℕ) (p : ℕ) → Wrote bs bs p p []
 unfolding Laid span
 wrote-none bs p = record { laid = tt; end = sym (add-zero p); others = λ k h. refl; long = refl }
+
+-- one field, set to a value that fits it
+pub wrote-set : (old new : List ℕ) (p q w v : ℕ) → v < 2 ^ w → q ≡ p + w → Overwritten old new p w (v % 2 ^ w) → Wrote old new p q (bits w v ∷ [])
+unfolding Laid span
+wrote-set old new p q w v h e o =
+    record {
+      laid = (o .field ∙ mod-eq-of-lt h, tt);
+      end = omega arith;
+      others = λ k l. o .others k (elim l [ inl a ↦ inl a | inr a ↦ inr (omega arith) ]);
+      long = o .long;
+    }
 
 pub wrote-append : (a b c : List ℕ) (p q r : ℕ) (fs gs : List Field) → Wrote a b p q fs → Wrote b c q r gs → Wrote a c p r (fs ++ gs)
 wrote-append a b c p q r fs gs f g =
@@ -42,7 +54,7 @@ module _ (n p : ℕ) (fs gs : List Field) (h : Ready n p (fs ++ gs)) where
       let b = h .countable in
       record { fits = all-split Fits fs gs (h .fits) .0; room = omega arith; countable = omega arith }
 
-  pub ready-back : (q : ℕ) → q ≡ p + span fs → Ready n q gs
+  ready-back : (q : ℕ) → q ≡ p + span fs → Ready n q gs
   ready-back q e =
       let s = span-append fs gs in
       let a = h .room in

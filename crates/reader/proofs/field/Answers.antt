@@ -1,13 +1,12 @@
 use native.Mathlib.Omega.{arith}
-use mathlib.Core.Path.{_≡_, sym, ap, _∙_}
+use mathlib.Core.Path.{sym, ap, _∙_}
 use Prim.Native.Nat.{_+_, _*_, _<_}
 use denote.Ref.{now}
 use lib.ListN.{length}
 use Rattle.std.proofs.shelf.Results.{err-from-errBy}
-use Rattle.std.specs.declared.result.Result.the-variants.{Ok, Err}
+use Rattle.std.specs.declared.result.Result.the-variants.{Err}
 use Rattle.bits.specs.Widths.{bitsOf}
 use Rattle.bits.proofs.Widths.{bitsOf-most}
-use Rattle.recording.specs.Ranges.{andThen}
 use Rattle.recording.proofs.Ranges.{ranged-in, ranged-out}
 use Rattle.reader.proofs.Fields.{field-ends, field-here}
 use Rattle.reader.proofs.field.Needs as need

@@ -1,4 +1,3 @@
-use mathlib.Core.Path.{_≡_}
 use Rattle.recording.specs.Layout.{entryFields}
 use Rattle.writer.proofs.Lays.{ready-item, ready-items, wrote-all, wrote-item, wrote-none}
 use Rattle.writer.proofs.lay_entries.Needs as need

@@ -1,4 +1,4 @@
-use mathlib.Core.Path.{_≡_, sym, _∙_}
+use mathlib.Core.Path.{sym, _∙_}
 use mathlib.Core.List.{_∷_, []}
 use Rattle.recording.specs.Layout.{bits, eventFields}
 use Rattle.recording.specs.Record.{numberOf}

@@ -1,4 +1,3 @@
-use mathlib.Core.Path.{_≡_}
 use Rattle.recording.specs.Layout.{eventFields}
 use Rattle.recording.specs.Record.{noEvent}
 use Rattle.writer.proofs.Lays.{ready-item, ready-items, wrote-all, wrote-item, wrote-none}

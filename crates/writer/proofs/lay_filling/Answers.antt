@@ -1,6 +1,6 @@
 use native.Mathlib.Nat.{sub-zero}
 use native.Mathlib.Omega.{arith}
-use mathlib.Core.Path.{_≡_, sym}
+use mathlib.Core.Path.{_≡_}
 use mathlib.Core.List.{_∷_, []}
 use Rattle.recording.specs.Layout.{bits, gap}
 use Rattle.writer.proofs.Lays.{ready-bit, ready-front, ready-next, wrote-bit, wrote-none}

@@ -1,4 +1,3 @@
-use mathlib.Core.Path.{_≡_}
 use mathlib.Core.List.{_∷_, []}
 use Rattle.recording.specs.Layout.{bits}
 use Rattle.writer.proofs.Lays.{ready-front, ready-next, wrote-append}

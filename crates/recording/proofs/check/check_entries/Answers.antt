@@ -1,7 +1,4 @@
 use native.Mathlib.Omega.{arith}
-use mathlib.Core.Path.{_≡_, refl, _∙_}
-use Prim.Native.Nat.{_+_}
-use lib.ListN.{getD}
 use Rattle.std.proofs.shelf.Results.{err-from-errBy}
 use Rattle.recording.specs.Layout.{entryFields, span}
 use Rattle.recording.specs.Ranges.{entryTries, tryAll}

@@ -1,4 +1,3 @@
-use mathlib.Core.Path.{_≡_}
 use Rattle.std.proofs.shelf.Results.{err-from-errBy}
 use Rattle.recording.specs.Ranges.{tryAll}
 use Rattle.recording.proofs.Ranges.{ranged-in, ranged-out}

@@ -1,5 +1,4 @@
 use native.Mathlib.Omega.{arith}
-use mathlib.Core.Path.{_≡_, refl}
 use Rattle.std.proofs.shelf.Results.{err-from-errBy}
 use Rattle.recording.proofs.Tries.{lineups-done, lineups-more, lineups-stop, parts-done, parts-more, total-done, total-more}
 use Rattle.recording.proofs.check.check_lineups.Needs as need
