@@ -141,13 +141,15 @@ module _ (bs : List ℕ) (h : Header) (p1 : ℕ) (es : List Event) (p2 : ℕ) (l
       let f = filled bs p3 (gap p3) q d in
       let e : p3 ≡ span (headerFields (recordOf h es ls) ++ (joined eventFields es ++ joined lineupFields ls)) = omega (arith, all .end) in (
         record {
-          code = sh .1;
-          some = sh .2;
-          stations = sh .3;
-          count = sh .4;
-          events = rw ue (se .1);
-          lengths = rw un (all-lengths ls (sl .1));
-          entries = rw uc (all-flat ls (sl .1));
+          fields = record {
+            code = sh .1;
+            some = sh .2;
+            stations = sh .3;
+            count = sh .4;
+            events = rw ue (se .1);
+            lengths = rw un (all-lengths ls (sl .1));
+            entries = rw uc (all-flat ls (sl .1));
+          };
           restEvents = rw ue;
           restLengths = rw un;
           restEntries = rw uc;
@@ -176,9 +178,9 @@ header-back : (bs : List ℕ) (r : Recording) → Limits r → Laid bs 0 (header
 unfolding headerAt Laid
 header-back bs r o l h =
     let a = field-back bs 0 4 1 1 1 (l .0) (omega arith) (omega arith) (omega arith) in
-    let b = field-back bs 4 4 0 maxCode (r .code) (l .1 .0) (omega arith) (omega arith) (o .code) in
-    let c = field-back bs 8 4 1 maxStations (r .stations) (l .1 .1 .0) (omega arith) (o .some) (o .stations) in
-    let d = field-back bs 12 11 0 maxEvents (r .count) (l .1 .1 .1 .0) (omega arith) (omega arith) (o .count) in
+    let b = field-back bs 4 4 0 maxCode (r .code) (l .1 .0) (omega arith) (omega arith) (o .fields .code) in
+    let c = field-back bs 8 4 1 maxStations (r .stations) (l .1 .1 .0) (omega arith) (o .fields .some) (o .fields .stations) in
+    let d = field-back bs 12 11 0 maxEvents (r .count) (l .1 .1 .1 .0) (omega arith) (omega arith) (o .fields .count) in
     rw (a, b, c, d)
 
 header-span : (r : Recording) → span (headerFields r) ≡ 23
@@ -205,9 +207,9 @@ file-decoded bs r o f =
     let w = f .whole in
     let z : span (headerFields r ++ (ev ++ lu)) ≡ 23 + span ev + span lu = omega arith in
     let ha = header-back bs r o (k .0) (omega arith) in
-    let hb = many-back bs (eventAt bs (r .stations)) eventFields (EventOk (r .stations)) (event-back bs (r .stations) (o .some)) es 23 (o .events) (m .0) (omega arith) in
+    let hb = many-back bs (eventAt bs (r .stations)) eventFields (EventOk (r .stations)) (event-back bs (r .stations) (o .fields .some)) es 23 (o .fields .events) (m .0) (omega arith) in
     let hc = many-back bs (lineupAt bs) lineupFields LineupOk (lineup-back bs) ls (23 + span ev)
-    (all-parts (usedLengths r) (r .entries) (full-entries r o) (o .lengths) (o .entries)) (m .1) (omega arith) in
+    (all-parts (usedLengths r) (r .entries) (full-entries r o) (o .fields .lengths) (o .fields .entries)) (m .1) (omega arith) in
     let hd = filling-back bs (23 + span ev + span lu) (gap (23 + span ev + span lu)) (zero-bits bs _ _ (rw z at (f .filling))) (rw z at w) in
     let hb′ = rw (full-events r o) at hb in
     let hc′ = rw (full-lineups r o) at hc in

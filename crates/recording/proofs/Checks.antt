@@ -4,7 +4,7 @@ use mathlib.Core.List.{List, [], _∷_, _++_}
 use mathlib.Core.Bool.{Bool, true, false}
 use Prim.Native.Nat.{ℕ, zero, suc, _+_, _-_, _≤_}
 use native.Mathlib.Omega.{arith}
-use lib.ListN.{length, take, drop, replicate, length-take}
+use lib.ListN.{length, take, drop, replicate}
 use lib.Seq.{take-add}
 use Rattle.std.specs.Joined.{joined}
 use Rattle.std.specs.declared.result.Result.the-variants.{Ok, Err}
@@ -17,9 +17,9 @@ use Rattle.recording.specs.declared.record.EventKind.the-variants.{PostCalled,
 use Rattle.recording.specs.declared.record.Recording.{Recording}
 use Rattle.recording.specs.Layout.{entryFields, eventFields, headerFields, lineupFields, recordFields, span}
 use Rattle.recording.specs.Ranges.{InRange, Outside, Tried, entryTries, eventNumbers, eventTries, headerTries, lineupTries, lineupsTries, manyTries, recordTries, tried, tryAll, unused, usedTries, zeroTries}
-use Rattle.recording.specs.Record.{All, EventOk, Limits, allEntries, carries, lineupsOf, maxCall, maxCode, maxEntries, maxEvents, maxStations, noEvent, numberOf, total, usedEntries, usedEvents, usedLengths}
+use Rattle.recording.specs.Record.{All, EventOk, FieldsOk, Limits, allEntries, carries, lineupsOf, maxCall, maxEntries, maxEvents, maxStations, noEvent, numberOf, total, usedEvents, usedLengths}
 use Rattle.recording.proofs.Layouts.{code-most, span-append}
-use Rattle.recording.proofs.Lineups.{all-append, all-split, total-most}
+use Rattle.recording.proofs.Lineups.{all-append, all-split, most-entries}
 use Rattle.recording.proofs.Padded.{padded-back, padded-rest}
 use Rattle.recording.proofs.Ranges.{not-both}
 use Rattle.recording.proofs.Tries.{all-inside, first-out, inside-all, try-past, try-stops}
@@ -138,18 +138,8 @@ events-all (suc n) = (refl, (refl, (refl, events-all n)))
 
 -- ---- the record
 
--- each field in use is in its range
-pub record Used (r : Recording) : Type 0 where
-  pub code : r .code ≤ maxCode
-  pub some : 1 ≤ r .stations
-  pub stations : r .stations ≤ maxStations
-  pub count : r .count ≤ maxEvents
-  pub events : All (EventOk (r .stations)) (usedEvents r)
-  pub lengths : All (λ n. n ≤ maxEntries) (usedLengths r)
-  pub entries : All (λ c. c ≤ maxCall) (usedEntries r)
-
 module _ (r : Recording) where
-  pub used-inside : tryAll (usedTries r) ≡ Ok tt → Used r
+  pub used-inside : tryAll (usedTries r) ≡ Ok tt → FieldsOk r
   unfolding usedTries All
   used-inside h =
       let k = all-split InRange (headerTries r) _ (all-inside _ h) in
@@ -165,15 +155,8 @@ module _ (r : Recording) where
         entries = l .1;
       }
 
-  pub used-most : Used r → total (usedLengths r) ≤ allEntries
-  used-most u =
-      let a = total-most (usedLengths r) (u .lengths) in
-      let b = length-take (r .stations) (r .lengths) in
-      let c = u .stations in
-      omega arith
-
   used-limits : length (r .events) ≡ maxEvents → length (r .lengths) ≡ maxStations → length (r .entries) ≡ allEntries
-      → Used r → tryAll (recordTries r) ≡ Ok tt → Limits r
+      → FieldsOk r → tryAll (recordTries r) ≡ Ok tt → Limits r
   unfolding recordTries
   used-limits le ln lc u h =
       let k = all-split InRange (usedTries r) _ (all-inside _ h) in
@@ -181,34 +164,29 @@ module _ (r : Recording) where
       let m = all-split (λ v. v ≡ 0) (joined eventNumbers (drop (r .count) (r .events))) _ z in
       let n = all-split (λ v. v ≡ 0) (drop (r .stations) (r .lengths)) _ (m .1) in
       record {
-        code = u .code;
-        some = u .some;
-        stations = u .stations;
-        count = u .count;
-        events = u .events;
-        lengths = u .lengths;
-        entries = u .entries;
+        fields = u;
         restEvents = padded-back maxEvents noEvent (r .events) (r .count) (u .count) le (same-events _ (m .0));
         restLengths = padded-back maxStations 0 (r .lengths) (r .stations) (u .stations) ln (same-zeros _ (n .0));
-        restEntries = padded-back allEntries 0 (r .entries) (total (usedLengths r)) (used-most u) lc (same-zeros _ (n .1));
+        restEntries = padded-back allEntries 0 (r .entries) (total (usedLengths r)) (most-entries r u) lc (same-zeros _ (n .1));
       }
 
   limits-inside : Limits r → All InRange (recordTries r)
   unfolding recordTries usedTries All
   limits-inside o =
-      let t = used-most (record { code = o .code; some = o .some; stations = o .stations; count = o .count; events = o .events; lengths = o .lengths; entries = o .entries }) in
-      let de = padded-rest maxEvents noEvent (r .events) (r .count) (o .count) (o .restEvents) in
-      let dn = padded-rest maxStations 0 (r .lengths) (r .stations) (o .stations) (o .restLengths) in
+      let u = o .fields in
+      let t = most-entries r u in
+      let de = padded-rest maxEvents noEvent (r .events) (r .count) (u .count) (o .restEvents) in
+      let dn = padded-rest maxStations 0 (r .lengths) (r .stations) (u .stations) (o .restLengths) in
       let dc = padded-rest allEntries 0 (r .entries) (total (usedLengths r)) t (o .restEntries) in
       let ze : All (λ v. v ≡ 0) (joined eventNumbers (drop (r .count) (r .events))) = rw de (events-all (maxEvents - r .count)) in
       let zn : All (λ v. v ≡ 0) (drop (r .stations) (r .lengths)) = rw dn (zeros-all (maxStations - r .stations)) in
       let zc : All (λ v. v ≡ 0) (drop (total (usedLengths r)) (r .entries)) = rw dc (zeros-all (allEntries - total (usedLengths r))) in
-      let header : All InRange (headerTries r) = ((omega arith, omega arith), ((omega arith, o .code), ((o .some, o .stations), ((omega arith, o .count), tt)))) in
+      let header : All InRange (headerTries r) = ((omega arith, omega arith), ((omega arith, u .code), ((u .some, u .stations), ((omega arith, u .count), tt)))) in
       all-append InRange (usedTries r) _
       (all-append InRange (headerTries r) _ header
       (all-append InRange (manyTries (eventTries (r .stations)) eventFields (span (headerFields r)) (usedEvents r)) _
-      (inside-events (r .stations) (span (headerFields r)) (usedEvents r) (o .events))
-      (inside-lineups _ (usedLengths r) (r .entries) (o .lengths) (o .entries))))
+      (inside-events (r .stations) (span (headerFields r)) (usedEvents r) (u .events))
+      (inside-lineups _ (usedLengths r) (r .entries) (u .lengths) (u .entries))))
       (inside-zeros (span (recordFields r)) (unused r)
       (all-append (λ v. v ≡ 0) (joined eventNumbers (drop (r .count) (r .events))) _ ze
       (all-append (λ v. v ≡ 0) (drop (r .stations) (r .lengths)) _ zn zc)))

@@ -8,7 +8,7 @@ use lib.Seq.{drop-drop, take-add}
 use Rattle.std.specs.Joined.{joined}
 use Rattle.std.proofs.shelf.Lists.{take-at, drop-at, length-map}
 use Rattle.recording.specs.declared.record.Recording.{Recording}
-use Rattle.recording.specs.Record.{All, Limits, allEntries, parts, lineupsOf, maxCall, maxEntries, maxEvents, maxStations, noEvent, total, usedEvents, usedLengths}
+use Rattle.recording.specs.Record.{All, FieldsOk, Limits, allEntries, parts, lineupsOf, maxCall, maxEntries, maxEvents, maxStations, noEvent, total, usedEvents, usedLengths}
 use Rattle.recording.proofs.Padded.{front-full, padded-long}
 
 -- a line-up within the limits
@@ -95,23 +95,24 @@ unfolding All total
 total-most [] h = omega arith
 total-most (n ∷ ns) h = let a = total-most ns (h .1) in let b = h .0 in omega arith
 
+-- all line-ups together have no more entries than there are places
+pub most-entries : (r : Recording) → FieldsOk r → total (usedLengths r) ≤ allEntries
+most-entries r o =
+    let a = total-most (usedLengths r) (o .lengths) in
+    let b = length-take (r .stations) (r .lengths) in
+    let c = o .stations in
+    omega arith
+
 module _ (r : Recording) (o : Limits r) where
   pub full-events : length (usedEvents r) ≡ r .count
-  full-events = front-full maxEvents noEvent (r .events) (r .count) (o .count) (o .restEvents)
+  full-events = front-full maxEvents noEvent (r .events) (r .count) (o .fields .count) (o .restEvents)
 
   pub full-lengths : length (usedLengths r) ≡ r .stations
-  full-lengths = front-full maxStations 0 (r .lengths) (r .stations) (o .stations) (o .restLengths)
-
-  pub most-entries : total (usedLengths r) ≤ allEntries
-  most-entries =
-      let a = total-most (usedLengths r) (o .lengths) in
-      let b = full-lengths in
-      let d = o .stations in
-      omega arith
+  full-lengths = front-full maxStations 0 (r .lengths) (r .stations) (o .fields .stations) (o .restLengths)
 
   pub full-entries : total (usedLengths r) ≤ length (r .entries)
   full-entries =
-      let a = most-entries in
+      let a = most-entries r (o .fields) in
       let c = padded-long allEntries 0 (r .entries) (total (usedLengths r)) (o .restEntries) in
       omega arith
 

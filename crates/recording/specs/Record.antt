@@ -112,8 +112,8 @@ pub record EventOk (stations : ℕ) (e : Event) : Type 0 where
   pub order : e .order ≤ maxOrder
   pub uncarried : carries (e .kind) ≡ false → e .order ≡ 0
 
--- a recording within the limits: each field in its range, each unused place zero
-pub record Limits (r : Recording) : Type 0 where
+-- each field of a recording is in its range
+pub record FieldsOk (r : Recording) : Type 0 where
   pub code : r .code ≤ maxCode
   pub some : 1 ≤ r .stations
   pub stations : r .stations ≤ maxStations
@@ -121,6 +121,10 @@ pub record Limits (r : Recording) : Type 0 where
   pub events : All (EventOk (r .stations)) (usedEvents r)
   pub lengths : All (λ n. n ≤ maxEntries) (usedLengths r)
   pub entries : All (λ c. c ≤ maxCall) (usedEntries r)
+
+-- a recording within the limits: each field in its range, each unused place zero
+pub record Limits (r : Recording) : Type 0 where
+  pub fields : FieldsOk r
   pub restEvents : r .events ≡ padded maxEvents noEvent (usedEvents r)
   pub restLengths : r .lengths ≡ padded maxStations 0 (usedLengths r)
   pub restEntries : r .entries ≡ padded allEntries 0 (usedEntries r)

@@ -60,13 +60,13 @@ zeros-fit (suc n) = (omega arith, zeros-fit n)
 record-fits : (r : Recording) → Limits r → All Fits (recordFields r)
 unfolding recordFields All
 record-fits r o =
-    let a = o .code in
-    let b = o .stations in
-    let c = o .count in
+    let a = o .fields .code in
+    let b = o .fields .stations in
+    let c = o .fields .count in
     all-append Fits (headerFields r) _ (omega arith, (omega arith, (omega arith, (omega arith, tt))))
     (all-append Fits (joined eventFields (usedEvents r)) (joined lineupFields (lineupsOf r))
-    (events-fit (r .stations) (usedEvents r) (o .stations) (o .events))
-    (lineups-fit (lineupsOf r) (all-parts (usedLengths r) (r .entries) (full-entries r o) (o .lengths) (o .entries))))
+    (events-fit (r .stations) (usedEvents r) (o .fields .stations) (o .fields .events))
+    (lineups-fit (lineupsOf r) (all-parts (usedLengths r) (r .entries) (full-entries r o) (o .fields .lengths) (o .fields .entries))))
 
 -- ---- there is room
 

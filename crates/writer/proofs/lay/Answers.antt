@@ -28,7 +28,7 @@ lay-lineups-place-requires c κs =
     let b = ready-next _ _ _ _ (headerFields r) _ a (c .lay-header-place .ensures) in
     record {
       ready = rw sub-zero (ready-next _ _ _ _ (joined eventFields (usedEvents r)) _ b (rw sub-zero at (c .lay-events-place .ensures)));
-      there = rw sub-zero (most-entries r (c .pre .limits));
+      there = rw sub-zero (most-entries r (c .pre .limits .fields));
     }
 
 pub lay-filling-requires : need.lay-filling-requires

@@ -6,7 +6,8 @@ use borrow.Author.Needs.{needs}
 use Rattle.std.proofs.shelf.Results.{cases-weaker, err-from-errBy}
 use Rattle.recording.specs.Ranges.{eventNumbers}
 use Rattle.recording.specs.Record.{allEntries, maxEvents, maxStations}
-use Rattle.recording.proofs.Checks.{unused-limits, unused-outside, used-inside, used-most, zeros-past, zeros-stop}
+use Rattle.recording.proofs.Checks.{unused-limits, unused-outside, used-inside, zeros-past, zeros-stop}
+use Rattle.recording.proofs.Lineups.{most-entries}
 use Rattle.recording.proofs.Padded.{rest-all}
 use Rattle.recording.proofs.check.check_unused.Needs as need
 
@@ -42,13 +43,13 @@ returns-in-Break-check-zeros c =
     (rw n at (c .in-Break-check-zeros .ensures tt))))
 
 pub offset-recording-entry : need.offset-recording-entry
-offset-recording-entry c = let m = used-most (c .args .recording .now) (used-inside (c .args .recording .now) (c .pre .used)) in record { fits = omega (arith, m, c .pre .entry) }
+offset-recording-entry c = let m = most-entries (c .args .recording .now) (used-inside (c .args .recording .now) (c .pre .used)) in record { fits = omega (arith, m, c .pre .entry) }
 
 pub part-check-zeros-count-2 : need.part-check-zeros-count-2
-part-check-zeros-count-2 c = rw (c .pre .entry) (used-most (c .args .recording .now) (used-inside (c .args .recording .now) (c .pre .used)))
+part-check-zeros-count-2 c = rw (c .pre .entry) (most-entries (c .args .recording .now) (used-inside (c .args .recording .now) (c .pre .used)))
 
 pub part-check-zeros-start-2 : need.part-check-zeros-start-2
-part-check-zeros-start-2 c = rw (c .pre .entry) (used-most (c .args .recording .now) (used-inside (c .args .recording .now) (c .pre .used)))
+part-check-zeros-start-2 c = rw (c .pre .entry) (most-entries (c .args .recording .now) (used-inside (c .args .recording .now) (c .pre .used)))
 
 pub returns : need.returns
 returns c =
