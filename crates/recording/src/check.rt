@@ -24,8 +24,25 @@ use crate::record::MAX_ORDER;
 use crate::record::MAX_STATIONS;
 use crate::record::Recording;
 
-/// The bits of the header: edition, code, stations and event count.
-const HEADER_BITS: usize = 23;
+/// Where the fields of the header stand, and where it ends.
+const CODE_AT: usize = 4;
+
+const STATIONS_AT: usize = 8;
+
+const COUNT_AT: usize = 12;
+
+const HEADER_END: usize = 23;
+
+/// How many bits the other fields have.
+const KIND_BITS: usize = 3;
+
+const STATION_BITS: usize = 3;
+
+const ORDER_BITS: usize = 12;
+
+const LENGTH_BITS: usize = 10;
+
+const ENTRY_BITS: usize = 9;
 
 /// Where line-ups end: the bit of the file, and the place in the list of entries.
 #[derive(Clone, Copy)]
@@ -41,9 +58,9 @@ fn check_header(recording: &Recording) -> Result<(), FieldFault>
         × (1 ≤ now (recording .entry) .stations) × (now (recording .entry) .stations ≤ maxStations) × (now (recording .entry) .count ≤ maxEvents))
         (λ e. tryAll (headerTries (now (recording .entry))) ≡ Err (fieldTold e)) ⌝ }
 {
-    ranged(4, 0, MAX_CODE, recording.code)?;
-    ranged(8, 1, MAX_STATIONS as u16, recording.stations)?;
-    ranged(12, 0, MAX_EVENTS as u16, recording.count)?;
+    ranged(CODE_AT, 0, MAX_CODE, recording.code)?;
+    ranged(STATIONS_AT, 1, MAX_STATIONS as u16, recording.stations)?;
+    ranged(COUNT_AT, 0, MAX_EVENTS as u16, recording.count)?;
     Ok(())
 }
 
@@ -55,13 +72,14 @@ fn check_event(event: &Event, stations: u16, bit: usize) -> Result<usize, FieldF
         (λ q. (tryAll (eventTries stations bit (now (event .entry))) ≡ Ok tt) × (q ≡ bit + span (eventFields (now (event .entry)))) × (q ≤ bit + 18))
         (λ e. tryAll (eventTries stations bit (now (event .entry))) ≡ Err (fieldTold e)) ⌝ }
 {
-    ranged(bit + 3, 0, stations - 1, event.station)?;
+    ranged(bit + KIND_BITS, 0, stations - 1, event.station)?;
+    let end = bit + KIND_BITS + STATION_BITS;
     if event.kind.carries_order() {
-        ranged(bit + 6, 0, MAX_ORDER, event.order)?;
-        Ok(bit + 18)
+        ranged(end, 0, MAX_ORDER, event.order)?;
+        Ok(end + ORDER_BITS)
     } else {
         ranged(bit, 0, 0, event.order)?;
-        Ok(bit + 6)
+        Ok(end)
     }
 }
 
@@ -94,7 +112,7 @@ fn check_entries(entries: &[u16], bit: usize) -> Result<usize, FieldFault>
     let mut end = bit;
     for entry in entries {
         ranged(end, 0, MAX_CALL, *entry)?;
-        end += 9;
+        end += ENTRY_BITS;
     }
     Ok(end)
 }
@@ -112,7 +130,7 @@ fn check_lineup(length: u16, entries: &[u16; ALL_ENTRIES], start: End) -> Result
     ranged(start.bit, 0, MAX_ENTRIES as u16, length)?;
     let first = start.entry;
     let entry = first + length as usize;
-    let bit = check_entries(&entries[first..entry], start.bit + 10)?;
+    let bit = check_entries(&entries[first..entry], start.bit + LENGTH_BITS)?;
     Ok(End { bit, entry })
 }
 
@@ -148,7 +166,7 @@ fn check_used(recording: &Recording) -> Result<End, FieldFault>
 {
     check_header(recording)?;
     let events = &recording.events[0..recording.count as usize];
-    let bit = check_events(events, recording.stations, HEADER_BITS)?;
+    let bit = check_events(events, recording.stations, HEADER_END)?;
     let lengths = &recording.lengths[0..recording.stations as usize];
     check_lineups(lengths, &recording.entries, bit)
 }

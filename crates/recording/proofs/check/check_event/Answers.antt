@@ -1,6 +1,5 @@
 use native.Mathlib.Omega.{arith}
 use mathlib.Core.Path.{_≡_, sym, _∙_}
-use Prim.Native.Nat.{_+_}
 use Rattle.std.proofs.shelf.Results.{err-from-errBy}
 use Rattle.recording.specs.Layout.{eventFields, span}
 use Rattle.recording.specs.Ranges.{eventTries, tryAll}
@@ -21,8 +20,7 @@ returns-in-Break-ranged-2 c =
     let r = err-from-errBy (c .from-residual-in-Break-ranged-2 .result) (c .from-residual-in-Break-ranged-2 .ensures .1) in
     let k = kind-in (c .args .bit) (c .args .event .now .kind) in
     let y = sym (c .carries-order .ensures) ∙ c .if-carries-order .taken in
-    let e : c .args .bit + 3 + 3 ≡ c .args .bit + 6 = omega arith in
-    rw (r .1, r .2, k, ranged-in _ _ _ _ _ (c .in-Continue-ranged .ensures tt), y, e, ranged-out _ _ _ _ _ (c .in-Break-ranged-2 .ensures tt))
+    rw (r .1, r .2, k, ranged-in _ _ _ _ _ (c .in-Continue-ranged .ensures tt), y, ranged-out _ _ _ _ _ (c .in-Break-ranged-2 .ensures tt))
 
 pub returns-in-Break-ranged-3 : need.returns-in-Break-ranged-3
 unfolding eventTries eventFields tryAll
@@ -37,8 +35,7 @@ unfolding eventTries eventFields tryAll span
 returns-in-Continue-ranged-2 c =
     let k = kind-in (c .args .bit) (c .args .event .now .kind) in
     let y = sym (c .carries-order .ensures) ∙ c .if-carries-order .taken in
-    let e : c .args .bit + 3 + 3 ≡ c .args .bit + 6 = omega arith in
-    rw y (rw (k, ranged-in _ _ _ _ _ (c .in-Continue-ranged .ensures tt), e, ranged-in _ _ _ _ _ (c .in-Continue-ranged-2 .ensures tt)), omega arith, omega arith)
+    rw y (rw (k, ranged-in _ _ _ _ _ (c .in-Continue-ranged .ensures tt), ranged-in _ _ _ _ _ (c .in-Continue-ranged-2 .ensures tt)), omega arith, omega arith)
 
 pub returns-in-Continue-ranged-3 : need.returns-in-Continue-ranged-3
 unfolding eventTries eventFields tryAll span
