@@ -27,16 +27,6 @@ ranged p lo hi v = cond (leb lo v && leb v hi) (Ok v) (Err (told 2 (AtBit p)))
 
 -- ---- what is tried
 
--- a number of a record, its range, and the bit at which it is told where it is outside
-pub record Tried : Type 0 where
-  pub bit : ℕ
-  pub low : ℕ
-  pub high : ℕ
-  pub value : ℕ
-
-abbrev pub tried : ℕ → ℕ → ℕ → ℕ → Tried
-tried p lo hi v = record { bit = p; low = lo; high = hi; value = v }
-
 pub record Range : Type 0 where
   pub low : ℕ
   pub high : ℕ
@@ -44,11 +34,20 @@ pub record Range : Type 0 where
 abbrev pub range : ℕ → ℕ → Range
 range lo hi = record { low = lo; high = hi }
 
+-- a number of a record, its range, and the bit at which it is told where it is outside
+pub record Tried : Type 0 where
+  pub bit : ℕ
+  pub range : Range
+  pub value : ℕ
+
+abbrev pub tried : ℕ → Range → ℕ → Tried
+tried p g v = record { bit = p; range = g; value = v }
+
 -- fields that stand one after the other from bit p on, each with its range, told where it stands
 abbrev pub fieldTries : ℕ → List Field → List Range → List Tried
 fieldTries p [] gs = []
 fieldTries p (f ∷ fs) [] = []
-fieldTries p (f ∷ fs) (g ∷ gs) = tried p (g .low) (g .high) (f .value) ∷ fieldTries (p + f .width) fs gs
+fieldTries p (f ∷ fs) (g ∷ gs) = tried p g (f .value) ∷ fieldTries (p + f .width) fs gs
 
 -- edition, code, stations, event count
 abbrev pub headerTries : Recording → List Tried
@@ -59,7 +58,7 @@ headerTries r = fieldTries 0 (headerFields r) (range 1 1 ∷ range 0 maxCode ∷
 unfoldable pub eventTries : ℕ → ℕ → Event → List Tried
 eventTries stations p e =
     fieldTries p (eventFields e) (range 0 maxKind ∷ range 0 (stations - 1) ∷ range 0 maxOrder ∷ [])
-    ++ cond (carries (e .kind)) [] (tried p 0 0 (e .order) ∷ [])
+    ++ cond (carries (e .kind)) [] (tried p (range 0 0) (e .order) ∷ [])
 
 abbrev pub entryTries : ℕ → ℕ → List Tried
 entryTries p c = fieldTries p (entryFields c) (range 0 maxCall ∷ [])
@@ -89,7 +88,7 @@ unused r = joined eventNumbers (drop (r .count) (r .events)) ++ (drop (r .statio
 
 -- numbers that must be zero, told at bit p
 abbrev pub zeroTries : ℕ → List ℕ → List Tried
-zeroTries p vs = map (λ v. tried p 0 0 v) vs
+zeroTries p vs = map (λ v. tried p (range 0 0) v) vs
 
 -- the fields of a record, in the sequence of the file
 unfoldable pub usedTries : Recording → List Tried
@@ -105,7 +104,7 @@ recordTries r = usedTries r ++ zeroTries (span (recordFields r)) (unused r)
 -- ---- the first that is outside its range
 
 abbrev pub InRange : Tried → Type 0
-InRange t = (t .low ≤ t .value) × (t .value ≤ t .high)
+InRange t = (t .range .low ≤ t .value) × (t .value ≤ t .range .high)
 
 -- the first of these that is outside its range is told as t
 pub record FirstOut (ts : List Tried) (t : Told) : Type 0 where
@@ -125,4 +124,4 @@ pub record Outside (r : Recording) (t : Told) : Type 0 where
 -- one after the other, up to the first that is outside
 unfoldable pub tryAll : List Tried → Result (Unit {0}) Told
 tryAll [] = Ok tt
-tryAll (t ∷ ts) = andThen (ranged (t .bit) (t .low) (t .high) (t .value)) (λ _. tryAll ts)
+tryAll (t ∷ ts) = andThen (ranged (t .bit) (t .range .low) (t .range .high) (t .value)) (λ _. tryAll ts)

@@ -163,7 +163,7 @@ pub fn write(recording: &Recording, buffer: &mut [u8]) -> Result<usize, WriteFau
         (λ e. Unwritten (now (recording .entry)) (length (now (buffer .entry))) (writeTold e) × (now (buffer .exit) ≡ now (buffer .entry))) ⌝ }
 {
     let bits = check(recording)?;
-    let needed = (bits + 7) / 8;
+    let needed = bits.div_ceil(8);
     if buffer.len() < needed {
         return Err(WriteFault::Short { needed });
     }
