@@ -5,6 +5,7 @@ ghost use lib.Bits.{bitAnd};
 ghost use lib.ListN.{length, set};
 ghost use mathlib.Core.Path.{_≡_};
 use crate::window::mask;
+use crate::window::shift;
 use crate::window::window;
 
 /// Writes the lowest 8 bits of a number at an index, or nothing past the end.
@@ -40,7 +41,7 @@ pub(crate) fn paste(bytes: &mut [u8], place: usize, bits: usize, value: u16)
     requires within { ⌜ place + bits ≤ 8 * length (now bytes) ⌝ }
     ensures { λ _. ⌜ Overwritten (now (bytes .entry)) (now (bytes .exit)) place bits (value % 2 ^ bits) ⌝ }
 {
-    let shift = 24 - place % 8 - bits;
+    let shift = shift(place, bits);
     let ones = mask(bits);
     let around = cleared(window(bytes, place / 8), ones << shift);
     let field = (u32::from(value) & ones) << shift;

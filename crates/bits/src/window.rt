@@ -1,5 +1,5 @@
 //! A window of three bytes: a field of at most 12 bits always lies within one.
-ghost use Prim.Native.Nat.{_+_, _-_, _*_, _<_, _≤_, _^_};
+ghost use Prim.Native.Nat.{_+_, _-_, _*_, _%_, _<_, _≤_, _^_};
 ghost use Rattle.bits.specs.Bits.{reach, spelled};
 ghost use Rattle.std.specs.Options.{Cases};
 ghost use lib.ListN.{getD};
@@ -11,6 +11,14 @@ pub(crate) fn mask(bits: usize) -> u32
     ensures { λ r. ⌜ r ≡ 2 ^ bits - 1 ⌝ }
 {
     (1 << bits) - 1
+}
+
+/// How many bits of its window stand after the bits at a place.
+pub(crate) fn shift(place: usize, bits: usize) -> usize
+    requires { ⌜ bits ≤ 12 ⌝ }
+    ensures { λ r. ⌜ r ≡ 24 - place % 8 - bits ⌝ }
+{
+    24 - place % 8 - bits
 }
 
 /// The byte at an index, or 0 past the end.
@@ -37,8 +45,7 @@ pub(crate) fn cut(bytes: &[u8], place: usize, bits: usize) -> u16
     requires { ⌜ bits ≤ 12 ⌝ }
     ensures { λ r. ⌜ r ≡ spelled (now (bytes .entry)) place bits ⌝ }
 {
-    let shift = 24 - place % 8 - bits;
-    (window(bytes, place / 8) >> shift & mask(bits)) as u16
+    (window(bytes, place / 8) >> shift(place, bits) & mask(bits)) as u16
 }
 
 /// The bit after so many bits from a place on, or nothing where the bytes end before, or where 64 bits cannot count so far.

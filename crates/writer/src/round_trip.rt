@@ -4,8 +4,7 @@ ghost use Rattle.bits.specs.Told.{told};
 ghost use Rattle.bits.specs.declared.told.Place.the-variants.{Needs};
 ghost use Rattle.reader.specs.Faults.{readTold};
 ghost use Rattle.reader.specs.Reading.{Faulty, Holds};
-ghost use Rattle.recording.specs.Layout.{IsFile};
-ghost use Rattle.recording.specs.Record.{Limits, allZero};
+ghost use Rattle.recording.specs.Record.{allZero};
 ghost use Rattle.std.specs.Results.{Cases};
 ghost use Rattle.writer.specs.Faults.{writeTold};
 ghost use Rattle.writer.specs.Writing.{Unwritten, Written};
@@ -16,19 +15,6 @@ use crate::write;
 use reader::fault::ReadFault;
 use reader::read;
 use recording::record::Recording;
-
-/// Reads the file of a recording within the limits.
-fn read_back(recording: &Recording, file: &[u8], again: &mut Recording)
-    requires limits { ⌜ Limits (now recording) ⌝ }
-    requires file { ⌜ IsFile (now file) (now recording) ⌝ }
-    ensures holds { λ _. ⌜ Holds (now (file .entry)) (now (recording .entry)) ⌝ }
-    ensures again { λ _. ⌜ now (again .exit) ≡ now (recording .entry) ⌝ }
-{
-    match read(file, again) {
-        Ok(()) => (),
-        Err(_) => unreachable(),
-    }
-}
 
 /// Writes a recording, and reads what was written: reading it gives the recording back, with no fault.
 pub fn write_then_read(
@@ -45,8 +31,10 @@ pub fn write_then_read(
         × (now (again .exit) ≡ now (again .entry))) ⌝ }
 {
     let size = write(recording, buffer)?;
-    read_back(recording, &buffer[..size], again);
-    Ok(size)
+    match read(&buffer[..size], again) {
+        Ok(()) => Ok(size),
+        Err(_) => unreachable(),
+    }
 }
 
 /// Writes the recording of a file.

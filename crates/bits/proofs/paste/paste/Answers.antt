@@ -16,5 +16,5 @@ returns c =
     let m = and-mask v w in
     let hole = shl-whole (2 ^ w - 1) w t 32 (ones-lt w) (omega arith) in
     let field = shl-whole (v % 2 ^ w) w t 32 (mod-below v (2 ^ w) (pow-pos w)) (omega arith) in
-    rw (c .put-window .ensures, c .cleared-around .ensures, c .window .ensures, c .from .ensures, c .mask-ones .ensures, m, hole, field)
+    rw (c .put-window .ensures, c .cleared-around .ensures, c .shift-shift .ensures, c .window .ensures, c .from .ensures, c .mask-ones .ensures, m, hole, field)
     (pasted bs p w v (c .pre .narrow) (c .pre .within))

@@ -14,4 +14,4 @@ returns c =
     let t = 24 - p % 8 - w in
     let n : p % 8 + w + (24 - p % 8 - w) ≡ 24 = omega arith in
     let q : 8 * (p / 8) + p % 8 ≡ p = omega arith in
-    rw (c .mask .ensures, and-mask, c .window .ensures) (rw (n, q) at (spelled-cut bs (8 * (p / 8)) (p % 8) w t))
+    rw (c .shift .ensures, c .mask .ensures, and-mask, c .window .ensures) (rw (n, q) at (spelled-cut bs (8 * (p / 8)) (p % 8) w t))
