@@ -21,21 +21,29 @@ use crate::fault::ReadFaultFromBit;
 use crate::fault::ReadFaultFromField;
 use bits::cursor::BitCursor;
 use bits::width::Width;
+use recording::layout::CODE_WIDTH;
+use recording::layout::COUNT_WIDTH;
+use recording::layout::EDITION;
+use recording::layout::EDITION_WIDTH;
+use recording::layout::ENTRY_WIDTH;
+use recording::layout::FILLING_WIDTH;
+use recording::layout::KIND_WIDTH;
+use recording::layout::LENGTH_WIDTH;
+use recording::layout::ORDER_WIDTH;
+use recording::layout::STATIONS_WIDTH;
+use recording::layout::STATION_WIDTH;
 use recording::range::ranged;
 use recording::record::ALL_ENTRIES;
-use recording::record::EDITION;
 use recording::record::Event;
 use recording::record::EventKind;
 use recording::record::MAX_CALL;
 use recording::record::MAX_CODE;
 use recording::record::MAX_ENTRIES;
+use recording::record::MAX_KIND;
 use recording::record::MAX_EVENTS;
 use recording::record::MAX_ORDER;
 use recording::record::MAX_STATIONS;
 use recording::record::Recording;
-
-/// The highest number of an event's kind.
-const MAX_KIND: u16 = 4;
 
 /// The fields before the events, but for the edition, which is 1.
 #[derive(Clone, Copy)]
@@ -57,8 +65,7 @@ fn field(cursor: &mut BitCursor, width: Width, low: u16, high: u16) -> Result<u1
 {
     let bit = cursor.place();
     let taken = cursor.take(width)?;
-    let value = ranged(bit, low, high, taken)?;
-    Ok(value)
+    Ok(ranged(bit, low, high, taken)?)
 }
 
 /// The edition, the code, the stations and the event count.
@@ -71,10 +78,10 @@ fn read_header(cursor: &mut BitCursor) -> Result<Header, ReadFault>
         × (1 ≤ h .stations) × (h .stations ≤ maxStations) × (h .count ≤ maxEvents))
         (λ e. headerAt (now (now (cursor .entry) .bytes)) (now (cursor .entry) .place) ≡ Err (readTold e)) ⌝ }
 {
-    field(cursor, Width::Four, EDITION, EDITION)?;
-    let code = field(cursor, Width::Four, 0, MAX_CODE)?;
-    let stations = field(cursor, Width::Four, 1, MAX_STATIONS as u16)?;
-    let count = field(cursor, Width::Eleven, 0, MAX_EVENTS as u16)?;
+    field(cursor, EDITION_WIDTH, EDITION, EDITION)?;
+    let code = field(cursor, CODE_WIDTH, 0, MAX_CODE)?;
+    let stations = field(cursor, STATIONS_WIDTH, 1, MAX_STATIONS as u16)?;
+    let count = field(cursor, COUNT_WIDTH, 0, MAX_EVENTS as u16)?;
     Ok(Header {
         code,
         stations,
@@ -105,11 +112,11 @@ fn read_event(cursor: &mut BitCursor, stations: u16) -> Result<Event, ReadFault>
         (λ v. eventAt (now (now (cursor .entry) .bytes)) stations (now (cursor .entry) .place) ≡ Ok (v, now (cursor .exit) .place))
         (λ e. eventAt (now (now (cursor .entry) .bytes)) stations (now (cursor .entry) .place) ≡ Err (readTold e)) ⌝ }
 {
-    let number = field(cursor, Width::Three, 0, MAX_KIND)?;
-    let station = field(cursor, Width::Three, 0, stations - 1)?;
+    let number = field(cursor, KIND_WIDTH, 0, MAX_KIND)?;
+    let station = field(cursor, STATION_WIDTH, 0, stations - 1)?;
     let kind = kind_of(number);
     let order = if kind.carries_order() {
-        field(cursor, Width::Twelve, 0, MAX_ORDER)?
+        field(cursor, ORDER_WIDTH, 0, MAX_ORDER)?
     } else {
         0
     };
@@ -148,7 +155,7 @@ fn read_entries(cursor: &mut BitCursor, slots: &mut [u16]) -> Result<(), ReadFau
         (λ e. manyAt (entryAt (now (now (cursor .entry) .bytes))) (length (now (slots .entry))) (now (cursor .entry) .place) ≡ Err (readTold e)) ⌝ }
 {
     for slot in slots.iter_mut() {
-        *slot = field(cursor, Width::Nine, 0, MAX_CALL)?;
+        *slot = field(cursor, ENTRY_WIDTH, 0, MAX_CALL)?;
     }
     Ok(())
 }
@@ -164,7 +171,7 @@ fn read_lineup(cursor: &mut BitCursor, slots: &mut [u16]) -> Result<u16, ReadFau
         × (length l ≡ n) × (now (slots .exit) ≡ l ++ drop n (now (slots .entry)))))
         (λ e. lineupAt (now (now (cursor .entry) .bytes)) (now (cursor .entry) .place) ≡ Err (readTold e)) ⌝ }
 {
-    let length = field(cursor, Width::Ten, 0, MAX_ENTRIES as u16)?;
+    let length = field(cursor, LENGTH_WIDTH, 0, MAX_ENTRIES as u16)?;
     read_entries(cursor, &mut slots[0..length as usize])?;
     Ok(length)
 }
@@ -206,7 +213,7 @@ fn read_filling(cursor: &mut BitCursor) -> Result<(), ReadFault>
 {
     while cursor.place() % 8 != 0 {
         let bit = cursor.place();
-        let filler = cursor.take(Width::One)?;
+        let filler = cursor.take(FILLING_WIDTH)?;
         if filler != 0 {
             return Err(ReadFault::Filling { bit });
         }

@@ -1,11 +1,11 @@
 ghost use Rattle.recording.specs.Record.{allZero, carries, numberOf};
 ghost use mathlib.Core.Path.{_≡_};
 
-/// The edition of the layout of files.
-pub const EDITION: u16 = 1;
-
 /// The highest code of a kind of lane.
 pub const MAX_CODE: u16 = 3;
+
+/// The highest number of a kind of event.
+pub const MAX_KIND: u16 = 4;
 
 /// The highest order.
 pub const MAX_ORDER: u16 = 4095;

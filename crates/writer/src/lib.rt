@@ -21,8 +21,18 @@ use crate::fault::WriteFaultFromField;
 use bits::set::set;
 use bits::width::Width;
 use recording::check::check;
+use recording::layout::CODE_WIDTH;
+use recording::layout::COUNT_WIDTH;
+use recording::layout::EDITION;
+use recording::layout::EDITION_WIDTH;
+use recording::layout::ENTRY_WIDTH;
+use recording::layout::FILLING_WIDTH;
+use recording::layout::KIND_WIDTH;
+use recording::layout::LENGTH_WIDTH;
+use recording::layout::ORDER_WIDTH;
+use recording::layout::STATIONS_WIDTH;
+use recording::layout::STATION_WIDTH;
 use recording::record::ALL_ENTRIES;
-use recording::record::EDITION;
 use recording::record::Event;
 use recording::record::Recording;
 
@@ -42,10 +52,10 @@ fn lay_header(recording: &Recording, bytes: &mut [u8]) -> usize
     requires { ⌜ Ready (length (now bytes)) 0 (headerFields (now recording)) ⌝ }
     ensures { λ end. ⌜ Wrote (now (bytes .entry)) (now (bytes .exit)) 0 end (headerFields (now (recording .entry))) ⌝ }
 {
-    let place = put(bytes, 0, Width::Four, EDITION);
-    let place = put(bytes, place, Width::Four, recording.code);
-    let place = put(bytes, place, Width::Four, recording.stations);
-    put(bytes, place, Width::Eleven, recording.count)
+    let place = put(bytes, 0, EDITION_WIDTH, EDITION);
+    let place = put(bytes, place, CODE_WIDTH, recording.code);
+    let place = put(bytes, place, STATIONS_WIDTH, recording.stations);
+    put(bytes, place, COUNT_WIDTH, recording.count)
 }
 
 /// Lays out an event.
@@ -53,10 +63,10 @@ fn lay_event(event: &Event, bytes: &mut [u8], place: usize) -> usize
     requires { ⌜ Ready (length (now bytes)) place (eventFields (now event)) ⌝ }
     ensures { λ end. ⌜ Wrote (now (bytes .entry)) (now (bytes .exit)) place end (eventFields (now (event .entry))) ⌝ }
 {
-    let place = put(bytes, place, Width::Three, event.kind.number());
-    let place = put(bytes, place, Width::Three, event.station);
+    let place = put(bytes, place, KIND_WIDTH, event.kind.number());
+    let place = put(bytes, place, STATION_WIDTH, event.station);
     if event.kind.carries_order() {
-        put(bytes, place, Width::Twelve, event.order)
+        put(bytes, place, ORDER_WIDTH, event.order)
     } else {
         place
     }
@@ -81,7 +91,7 @@ fn lay_entries(entries: &[u16], bytes: &mut [u8], place: usize) -> usize
 {
     let mut end = place;
     for entry in entries {
-        end = put(bytes, end, Width::Nine, *entry);
+        end = put(bytes, end, ENTRY_WIDTH, *entry);
     }
     end
 }
@@ -91,7 +101,7 @@ fn lay_lineup(lineup: &[u16], bytes: &mut [u8], place: usize) -> usize
     requires { ⌜ Ready (length (now bytes)) place (lineupFields (now lineup)) ⌝ }
     ensures { λ end. ⌜ Wrote (now (bytes .entry)) (now (bytes .exit)) place end (lineupFields (now (lineup .entry))) ⌝ }
 {
-    let place = put(bytes, place, Width::Ten, lineup.len() as u16);
+    let place = put(bytes, place, LENGTH_WIDTH, lineup.len() as u16);
     lay_entries(lineup, bytes, place)
 }
 
@@ -123,7 +133,7 @@ fn lay_filling(bytes: &mut [u8], place: usize) -> usize
 {
     let mut bit = place;
     for _ in 0..(8 - place % 8) % 8 {
-        bit = put(bytes, bit, Width::One, 0);
+        bit = put(bytes, bit, FILLING_WIDTH, 0);
     }
     bit
 }

@@ -23,11 +23,11 @@ returns-in-Break-taken c =
       result = field-ends _ _ _ _ _ k ∙ ap Err (sym (h .result .0));
     })
 
-pub returns-in-Break-value : need.returns-in-Break-value
-returns-in-Break-value c =
-    let p = err-from-errBy (c .from-residual-in-Break-value .result) (c .from-residual-in-Break-value .ensures .1) in
+pub returns-in-Break-ranged : need.returns-in-Break-ranged
+returns-in-Break-ranged c =
+    let p = err-from-errBy (c .from-residual-in-Break-ranged .result) (c .from-residual-in-Break-ranged .ensures .1) in
     let h = c .in-Continue-taken .ensures tt in
-    let e = ranged-out _ _ _ _ _ (c .in-Break-value .ensures tt) in
+    let e = ranged-out _ _ _ _ _ (c .in-Break-ranged .ensures tt) in
     rw (p .1, p .2) (record {
       bytes = h .bytes;
       near = omega (arith, h .result .1);
@@ -37,7 +37,7 @@ returns-in-Break-value c =
 pub returns : need.returns
 returns c =
     let h = c .in-Continue-taken .ensures tt in
-    let v = c .in-Continue-value .ensures tt in
+    let v = c .in-Continue-ranged .ensures tt in
     let here = field-here _ (c .args .cursor .now .place) (bitsOf (c .args .width)) (c .args .low) (c .args .high) (omega (arith, h .result .2)) (c .in-Continue-taken .taken) (h .result .0) in
     record {
       bytes = h .bytes;
