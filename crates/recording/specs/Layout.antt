@@ -49,6 +49,10 @@ lineupFields l = lengthField (length l) ∷ joined entryFields l
 unfoldable pub recordFields : Recording → List Field
 recordFields r = headerFields r ++ (joined eventFields (usedEvents r) ++ joined lineupFields (lineupsOf r))
 
+-- the most bits that the fields of a recording within the limits have
+abbrev pub maxBits : ℕ
+maxBits = 55399
+
 -- how many bits fill the last byte after a field that ends before bit p
 unfoldable pub gap : ℕ → ℕ
 gap p = (8 - p % 8) % 8

@@ -18,7 +18,8 @@ loop-entry-again c =
     let h = c .in-Continue-ranged .ensures tt in
     let m = span-more entryFields (c .args .entries .now) (c .loop-entry .entry-index) 0 (c .loop-entry-test .taken) in
     let n = items-more entryTries entryFields (c .args .entries .now) _ _ _ 0 (c .loop-entry .inv .0) (c .loop-entry-test .taken) (rw (ranged-in _ _ _ _ _ h)) in
-    (n, omega (arith, m, c .loop-entry .inv .1), omega (arith, c .loop-entry .inv .2))
+    let e = c .bits-end .ensures in
+    (rw e n, omega (arith, e, m, c .loop-entry .inv .1), omega (arith, e, c .loop-entry .inv .2))
 
 pub returns : need.returns
 returns c =

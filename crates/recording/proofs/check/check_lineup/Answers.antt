@@ -18,14 +18,14 @@ pub returns-in-Break-bit : need.returns-in-Break-bit
 unfolding lineupTries tryAll
 returns-in-Break-bit c =
     let r = err-from-errBy (c .from-residual-in-Break-bit .result) (c .from-residual-in-Break-bit .ensures .1) in
-    let e : c .args .start .entry + c .args .length - c .args .start .entry ≡ c .args .length = omega arith in
-    rw (r .1, r .2, ranged-in _ _ _ _ _ (c .in-Continue-ranged .ensures tt)) (rw e at (c .in-Break-bit .ensures tt))
+    let e : c .args .at .index + c .args .count - c .args .at .index ≡ c .args .count = omega arith in
+    rw (r .1, r .2, ranged-in _ _ _ _ _ (c .in-Continue-ranged .ensures tt)) (rw (e, c .bits .ensures) at (c .in-Break-bit .ensures tt))
 
 pub returns : need.returns
 unfolding lineupTries tryAll lineupFields span
 returns c =
     let h = c .in-Continue-ranged .ensures tt in
-    let e : c .args .start .entry + c .args .length - c .args .start .entry ≡ c .args .length = omega arith in
-    let k = rw e at (c .in-Continue-bit .ensures tt) in
-    let n = length-take (c .args .length) (drop (c .args .start .entry) (c .args .entries .now)) in
+    let e : c .args .at .index + c .args .count - c .args .at .index ≡ c .args .count = omega arith in
+    let k = rw (e, c .bits .ensures) at (c .in-Continue-bit .ensures tt) in
+    let n = length-take (c .args .count) (drop (c .args .at .index) (c .args .entries .now)) in
     (rw (ranged-in _ _ _ _ _ h) (k .0), omega (arith, k .1), refl, h .2, omega (arith, k .2, n, h .2))

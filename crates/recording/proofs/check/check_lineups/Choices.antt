@@ -9,8 +9,8 @@ use Rattle.recording.proofs.check.check_lineups.Given as given
 
 abbrev pub Inv-loop-length : given.InvT-loop-length
 Inv-loop-length l =
-    (tryAll (lineupsTries (l .bit) (l .lengths) (l .entries)) ≡ tryAll (lineupsTries (l .end .bit) (drop (l .length-index) (l .lengths)) (drop (l .end .entry) (l .entries))))
-    × (l .end .bit + span (joined lineupFields (parts (drop (l .length-index) (l .lengths)) (drop (l .end .entry) (l .entries)))) ≡ l .bit + span (joined lineupFields (parts (l .lengths) (l .entries))))
-    × (l .end .entry + total (drop (l .length-index) (l .lengths)) ≡ total (l .lengths))
-    × (l .end .entry ≤ maxEntries * l .length-index)
+    (tryAll (lineupsTries (l .bit) (l .lengths) (l .entries)) ≡ tryAll (lineupsTries (l .end .bit) (drop (l .length-index) (l .lengths)) (drop (l .end .index) (l .entries))))
+    × (l .end .bit + span (joined lineupFields (parts (drop (l .length-index) (l .lengths)) (drop (l .end .index) (l .entries)))) ≡ l .bit + span (joined lineupFields (parts (l .lengths) (l .entries))))
+    × (l .end .index + total (drop (l .length-index) (l .lengths)) ≡ total (l .lengths))
+    × (l .end .index ≤ maxEntries * l .length-index)
     × (l .end .bit ≤ l .bit + (10 + 9 * maxEntries) * l .length-index)

@@ -42,14 +42,14 @@ returns-in-Break-check-zeros c =
     ∙ zeros-stop (c .args .end .bit) (drop (c .args .recording .now .stations) (c .args .recording .now .lengths)) _ _
     (rw n at (c .in-Break-check-zeros .ensures tt))))
 
-pub offset-recording-entry : need.offset-recording-entry
-offset-recording-entry c = let m = most-entries (c .args .recording .now) (used-inside (c .args .recording .now) (c .pre .used)) in record { fits = omega (arith, m, c .pre .entry) }
+pub offset-recording-index : need.offset-recording-index
+offset-recording-index c = let m = most-entries (c .args .recording .now) (used-inside (c .args .recording .now) (c .pre .used)) in record { fits = omega (arith, m, c .pre .index) }
 
 pub part-check-zeros-count-2 : need.part-check-zeros-count-2
-part-check-zeros-count-2 c = rw (c .pre .entry) (most-entries (c .args .recording .now) (used-inside (c .args .recording .now) (c .pre .used)))
+part-check-zeros-count-2 c = rw (c .pre .index) (most-entries (c .args .recording .now) (used-inside (c .args .recording .now) (c .pre .used)))
 
 pub part-check-zeros-start-2 : need.part-check-zeros-start-2
-part-check-zeros-start-2 c = rw (c .pre .entry) (most-entries (c .args .recording .now) (used-inside (c .args .recording .now) (c .pre .used)))
+part-check-zeros-start-2 c = rw (c .pre .index) (most-entries (c .args .recording .now) (used-inside (c .args .recording .now) (c .pre .used)))
 
 pub returns : need.returns
 returns c =
@@ -61,6 +61,6 @@ returns c =
     (rw (rest-all maxEvents (r .count) (r .events) le) at (c .in-Continue-check-zero-events .ensures tt))
     ∙ zeros-past (c .args .end .bit) (drop (r .stations) (r .lengths)) _
     (rw (rest-all maxStations (r .stations) (r .lengths) ln) at (c .in-Continue-check-zeros .ensures tt)) in
-    cases-weaker (c .check-zeros-2 .result) (rw (rest-all allEntries (c .args .end .entry) (r .entries) lc, c .pre .entry) at (c .check-zeros-2 .ensures))
+    cases-weaker (c .check-zeros-2 .result) (rw (rest-all allEntries (c .args .end .index) (r .entries) lc, c .pre .index) at (c .check-zeros-2 .ensures))
     (λ _ l. unused-limits r (c .pre .used) _ (c .pre .bit) le ln lc (past ∙ l))
     (λ e l. unused-outside r (c .pre .used) _ (c .pre .bit) _ (past ∙ l))
