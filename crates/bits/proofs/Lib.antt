@@ -1,5 +1,5 @@
 pub mod Spells
-pub mod Windows
+mod Windows
 pub mod Widths
-pub mod Splices
-pub mod Pastes
+mod Splices
+mod Pastes

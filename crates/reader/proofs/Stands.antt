@@ -17,7 +17,7 @@ use Rattle.recording.specs.declared.record.EventKind.the-variants.{PostCalled, 
 use Rattle.recording.specs.Layout.{Field, bits, span, Laid, eventFields, entryFields, lineupFields}
 use Rattle.recording.specs.Ranges.{andThen}
 use Rattle.recording.specs.Record.{All, EventOk, carries, numberOf, event, maxCall, maxEntries, maxOrder}
-use Rattle.recording.proofs.Layouts.{code-most, laid-append, laid-parts, span-append}
+use Rattle.recording.proofs.Layouts.{kind-most, laid-append, laid-parts, span-append}
 use Rattle.recording.proofs.Lineups.{LineupOk}
 use Rattle.recording.proofs.Ranges.{ok-parts, same-ok}
 use Rattle.reader.specs.Reading.{Reading, entryAt, eventAt, fieldAt, kindOf, lineupAt, manyAt}
@@ -150,7 +150,7 @@ event-back-by bs st p e true y some o l r =
     let l′ = rw y at l in
     let r′ = rw y at r in
     let k = kind-code (e .kind) in
-    let a = field-back bs p 3 0 4 (numberOf (e .kind)) (l′ .0) (omega arith) (omega arith) (code-most (e .kind)) in
+    let a = field-back bs p 3 0 4 (numberOf (e .kind)) (l′ .0) (omega arith) (omega arith) (kind-most (e .kind)) in
     let b = field-back bs (p + 3) 3 0 (st - 1) (e .station) (l′ .1 .0) (omega arith) (omega arith) (omega (arith, o .station)) in
     let d = field-back bs (p + 3 + 3) 12 0 maxOrder (e .order) (l′ .1 .1 .0) (omega arith) (omega arith) (o .order) in
     let q : p + (3 + (3 + (12 + 0))) ≡ p + 3 + 3 + 12 = omega arith in
@@ -160,7 +160,7 @@ event-back-by bs st p e false y some o l r =
     let r′ = rw y at r in
     let k = kind-code (e .kind) in
     let z = o .uncarried y in
-    let a = field-back bs p 3 0 4 (numberOf (e .kind)) (l′ .0) (omega arith) (omega arith) (code-most (e .kind)) in
+    let a = field-back bs p 3 0 4 (numberOf (e .kind)) (l′ .0) (omega arith) (omega arith) (kind-most (e .kind)) in
     let b = field-back bs (p + 3) 3 0 (st - 1) (e .station) (l′ .1 .0) (omega arith) (omega arith) (omega (arith, o .station)) in
     let q : p + (3 + (3 + 0)) ≡ p + 3 + 3 = omega arith in
     rw (a, b, k, y, q) (ap (λ (x : ℕ). Ok (event (e .kind) (e .station) x, p + 3 + 3)) (sym z))

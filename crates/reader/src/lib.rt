@@ -1,7 +1,8 @@
 //! The reader of recordings: a file's bytes into a record.
 //!
-//! Each function here asks that the cursor's place is below a power of two that leaves room for all that it reads, so that no
-//! sum of places can wrap, and ensures how far it moves the cursor at the most (`near`). `read` starts at bit 0.
+//! The functions that read fields ask that the cursor's place is below a power of two that leaves room for all that they
+//! read, so that no sum of places can wrap, and ensure how far they move the cursor at the most (`near`). `read` starts at
+//! bit 0.
 pub mod fault;
 
 ghost use Prim.Native.Nat.{ℕ, _+_, _-_, _*_, _<_, _≤_, _^_};
@@ -30,8 +31,8 @@ use recording::layout::FILLING_WIDTH;
 use recording::layout::KIND_WIDTH;
 use recording::layout::LENGTH_WIDTH;
 use recording::layout::ORDER_WIDTH;
-use recording::layout::STATIONS_WIDTH;
 use recording::layout::STATION_WIDTH;
+use recording::layout::STATIONS_WIDTH;
 use recording::range::ranged;
 use recording::record::ALL_ENTRIES;
 use recording::record::Event;
@@ -39,8 +40,8 @@ use recording::record::EventKind;
 use recording::record::MAX_CALL;
 use recording::record::MAX_CODE;
 use recording::record::MAX_ENTRIES;
-use recording::record::MAX_KIND;
 use recording::record::MAX_EVENTS;
+use recording::record::MAX_KIND;
 use recording::record::MAX_ORDER;
 use recording::record::MAX_STATIONS;
 use recording::record::Recording;

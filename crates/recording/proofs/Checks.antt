@@ -16,9 +16,9 @@ use Rattle.recording.specs.declared.record.EventKind.{EventKind}
 use Rattle.recording.specs.declared.record.EventKind.the-variants.{PostCalled, DrawCalled, PostAnswered, DrawAnswered, DrawEmpty}
 use Rattle.recording.specs.declared.record.Recording.{Recording}
 use Rattle.recording.specs.Layout.{entryFields, eventFields, headerFields, lineupFields, recordFields, span}
-use Rattle.recording.specs.Ranges.{InRange, Outside, Tried, entryTries, eventNumbers, eventTries, headerTries, lineupTries, lineupsTries, manyTries, range, recordTries, tried, tryAll, unused, usedTries, zeroTries}
+use Rattle.recording.specs.Ranges.{InRange, Outside, Tried, between, entryTries, eventNumbers, eventTries, headerTries, lineupTries, lineupsTries, manyTries, recordTries, tried, tryAll, unused, usedTries, zeroTries}
 use Rattle.recording.specs.Record.{All, EventOk, FieldsOk, Limits, allEntries, carries, lineupsOf, maxCall, maxEntries, maxEvents, maxStations, noEvent, numberOf, total, usedEvents, usedLengths}
-use Rattle.recording.proofs.Layouts.{code-most, span-append}
+use Rattle.recording.proofs.Layouts.{kind-most, span-append}
 use Rattle.recording.proofs.Lineups.{all-append, all-split, most-entries}
 use Rattle.recording.proofs.Padded.{padded-back, padded-rest}
 use Rattle.recording.proofs.Ranges.{not-both}
@@ -44,11 +44,11 @@ event-inside st p e some h = event-by st p e (carries (e .kind)) refl some h
 tried-by : (st p : ℕ) (e : Event) (b : Bool) → carries (e .kind) ≡ b → EventOk st e → All InRange (eventTries st p e)
 unfolding eventTries eventFields All
 tried-by st p e true y o =
-    let k = code-most (e .kind) in
+    let k = kind-most (e .kind) in
     let s = o .station in
     rw y ((omega arith, omega arith), ((omega arith, omega arith), ((omega arith, o .order), tt)))
 tried-by st p e false y o =
-    let k = code-most (e .kind) in
+    let k = kind-most (e .kind) in
     let s = o .station in
     let z = o .uncarried y in
     rw y ((omega arith, omega arith), ((omega arith, omega arith), ((omega arith, omega arith), tt)))
@@ -244,7 +244,7 @@ module _ (r : Recording) where
 -- zeros in two parts
 module _ (p : ℕ) (vs ws : List ℕ) where
   pub zeros-past : tryAll (zeroTries p vs) ≡ Ok tt → tryAll (zeroTries p (vs ++ ws)) ≡ tryAll (zeroTries p ws)
-  zeros-past h = rw (map-append (λ v. tried p (range 0 0) v) vs ws) (try-past (zeroTries p vs) (zeroTries p ws) h)
+  zeros-past h = rw (map-append (λ v. tried p (between 0 0) v) vs ws) (try-past (zeroTries p vs) (zeroTries p ws) h)
 
   pub zeros-stop : (t : Told) → tryAll (zeroTries p vs) ≡ Err t → tryAll (zeroTries p (vs ++ ws)) ≡ Err t
-  zeros-stop t h = rw (map-append (λ v. tried p (range 0 0) v) vs ws) (try-stops (zeroTries p vs) (zeroTries p ws) t h)
+  zeros-stop t h = rw (map-append (λ v. tried p (between 0 0) v) vs ws) (try-stops (zeroTries p vs) (zeroTries p ws) t h)

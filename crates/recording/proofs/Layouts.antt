@@ -14,7 +14,7 @@ use Rattle.recording.specs.declared.record.EventKind.{EventKind}
 use Rattle.recording.specs.declared.record.EventKind.the-variants.{PostCalled, DrawCalled, PostAnswered, DrawAnswered, DrawEmpty}
 use Rattle.recording.specs.declared.record.Recording.{Recording}
 use Rattle.recording.specs.Layout.{Field, IsFile, Laid, gap, recordFields, span}
-use Rattle.recording.specs.Record.{numberOf}
+use Rattle.recording.specs.Record.{maxKind, numberOf}
 
 pub span-append : (fs gs : List Field) → span (fs ++ gs) ≡ span fs + span gs
 unfolding span
@@ -61,10 +61,10 @@ same-file bs cs r hb hc f g =
       | inr q ↦ spelled-inj bs cs (span (recordFields r)) (gap (span (recordFields r))) (f .filling ∙ sym (g .filling)) k q (omega arith)
     ])
 
--- no kind has a number above 4
-pub code-most : (k : EventKind) → numberOf k ≤ 4
-code-most PostCalled = lit≤ tt
-code-most DrawCalled = lit≤ tt
-code-most PostAnswered = lit≤ tt
-code-most DrawAnswered = lit≤ tt
-code-most DrawEmpty = lit≤ tt
+-- no kind has a higher number
+pub kind-most : (k : EventKind) → numberOf k ≤ maxKind
+kind-most PostCalled = lit≤ tt
+kind-most DrawCalled = lit≤ tt
+kind-most PostAnswered = lit≤ tt
+kind-most DrawAnswered = lit≤ tt
+kind-most DrawEmpty = lit≤ tt

@@ -16,7 +16,7 @@ use Rattle.recording.specs.Layout.{Field, lineupFields, span}
 use Rattle.recording.specs.Ranges.{FirstOut, InRange, Tried, andThen, lineupTries, lineupsTries, manyTries, ranged, tryAll}
 use Rattle.recording.specs.declared.record.EventKind.{EventKind}
 use Rattle.recording.specs.Record.{All, maxKind, numberOf, parts, total}
-use Rattle.recording.proofs.Layouts.{code-most, span-append}
+use Rattle.recording.proofs.Layouts.{kind-most, span-append}
 use Rattle.recording.proofs.Ranges.{inside-ranged, not-both, ok-parts, ranged-inside, ranged-told, same-err}
 
 -- ---- what no record can have out of range
@@ -25,7 +25,7 @@ pub edition-in : ranged 0 1 1 1 ≡ Ok 1
 edition-in = inside-ranged 0 1 1 1 (lit≤ tt) (lit≤ tt)
 
 pub kind-in : (p : ℕ) (k : EventKind) → ranged p 0 maxKind (numberOf k) ≡ Ok (numberOf k)
-kind-in p k = inside-ranged p 0 maxKind (numberOf k) (omega arith) (code-most k)
+kind-in p k = inside-ranged p 0 maxKind (numberOf k) (omega arith) (kind-most k)
 
 -- ---- several
 
@@ -37,7 +37,7 @@ then-on (Err e) a b c h = refl
 try-on : (ts us : List Tried) → tryAll (ts ++ us) ≡ andThen (tryAll ts) (λ _. tryAll us)
 unfolding tryAll
 try-on [] us = refl
-try-on (t ∷ ts) us = then-on (ranged (t .bit) (t .range .low) (t .range .high) (t .value)) (tryAll ts) (tryAll us) (tryAll (ts ++ us)) (try-on ts us)
+try-on (t ∷ ts) us = then-on (ranged (t .bit) (t .bounds .low) (t .bounds .high) (t .value)) (tryAll ts) (tryAll us) (tryAll (ts ++ us)) (try-on ts us)
 
 module _ (ts us : List Tried) where
   pub try-past : tryAll ts ≡ Ok tt → tryAll (ts ++ us) ≡ tryAll us
@@ -114,7 +114,7 @@ pub all-inside : (ts : List Tried) → tryAll ts ≡ Ok tt → All InRange ts
 unfolding tryAll All
 all-inside [] h = tt
 all-inside (t ∷ ts) h =
-    let k = ok-parts (ranged (t .bit) (t .range .low) (t .range .high) (t .value)) (λ _. tryAll ts) tt h in
+    let k = ok-parts (ranged (t .bit) (t .bounds .low) (t .bounds .high) (t .value)) (λ _. tryAll ts) tt h in
     (ranged-inside _ _ _ _ _ (k .1), all-inside ts (k .2))
 
 pub inside-all : (ts : List Tried) → All InRange ts → tryAll ts ≡ Ok tt
@@ -122,7 +122,7 @@ unfolding tryAll All
 inside-all [] h = refl
 inside-all (t ∷ ts) h = rw (inside-ranged (t .bit) _ _ _ (h .0 .0) (h .0 .1)) (inside-all ts (h .1))
 
-first-by : (x : Tried) (ts : List Tried) (t : Told) (r : Result ℕ Told) → ranged (x .bit) (x .range .low) (x .range .high) (x .value) ≡ r
+first-by : (x : Tried) (ts : List Tried) (t : Told) (r : Result ℕ Told) → ranged (x .bit) (x .bounds .low) (x .bounds .high) (x .value) ≡ r
     → andThen r (λ _. tryAll ts) ≡ Err t → (tryAll ts ≡ Err t → FirstOut ts t) → FirstOut (x ∷ ts) t
 unfolding All
 first-by x ts t (Ok v) e k on =
@@ -150,4 +150,4 @@ first-by x ts t (Err u) e k on =
 pub first-out : (ts : List Tried) (t : Told) → tryAll ts ≡ Err t → FirstOut ts t
 unfolding tryAll
 first-out [] t h = absurd (not-both tt t h)
-first-out (x ∷ ts) t h = first-by x ts t (ranged (x .bit) (x .range .low) (x .range .high) (x .value)) refl h (first-out ts t)
+first-out (x ∷ ts) t h = first-by x ts t (ranged (x .bit) (x .bounds .low) (x .bounds .high) (x .value)) refl h (first-out ts t)

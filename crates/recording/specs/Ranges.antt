@@ -27,41 +27,43 @@ ranged p lo hi v = cond (leb lo v && leb v hi) (Ok v) (Err (told 2 (AtBit p)))
 
 -- ---- what is tried
 
-pub record Range : Type 0 where
+-- a range: its lowest and its highest number
+pub record Bounds : Type 0 where
   pub low : ℕ
   pub high : ℕ
 
-abbrev pub range : ℕ → ℕ → Range
-range lo hi = record { low = lo; high = hi }
+abbrev pub between : ℕ → ℕ → Bounds
+between lo hi = record { low = lo; high = hi }
 
 -- a number of a record, its range, and the bit at which it is told where it is outside
 pub record Tried : Type 0 where
   pub bit : ℕ
-  pub range : Range
+  pub bounds : Bounds
   pub value : ℕ
 
-abbrev pub tried : ℕ → Range → ℕ → Tried
-tried p g v = record { bit = p; range = g; value = v }
+abbrev pub tried : ℕ → Bounds → ℕ → Tried
+tried p b v = record { bit = p; bounds = b; value = v }
 
 -- fields that stand one after the other from bit p on, each with its range, told where it stands
-abbrev pub fieldTries : ℕ → List Field → List Range → List Tried
-fieldTries p [] gs = []
+abbrev pub fieldTries : ℕ → List Field → List Bounds → List Tried
+fieldTries p [] bs = []
 fieldTries p (f ∷ fs) [] = []
-fieldTries p (f ∷ fs) (g ∷ gs) = tried p g (f .value) ∷ fieldTries (p + f .width) fs gs
+fieldTries p (f ∷ fs) (b ∷ bs) = tried p b (f .value) ∷ fieldTries (p + f .width) fs bs
 
 -- edition, code, stations, event count
 abbrev pub headerTries : Recording → List Tried
-headerTries r = fieldTries 0 (headerFields r) (range 1 1 ∷ range 0 maxCode ∷ range 1 maxStations ∷ range 0 maxEvents ∷ [])
+headerTries r = fieldTries 0 (headerFields r) (between 1 1 ∷ between 0 maxCode ∷ between 1 maxStations ∷ between 0 maxEvents ∷ [])
 
 -- an event from bit p on: kind, station, and the order where the kind carries one; an order that is not carried must be
 -- 0, comes after the station, and is told at the kind
 unfoldable pub eventTries : ℕ → ℕ → Event → List Tried
 eventTries stations p e =
-    fieldTries p (eventFields e) (range 0 maxKind ∷ range 0 (stations - 1) ∷ range 0 maxOrder ∷ [])
-    ++ cond (carries (e .kind)) [] (tried p (range 0 0) (e .order) ∷ [])
+    fieldTries p (eventFields e) (between 0 maxKind ∷ between 0 (stations - 1) ∷ between 0 maxOrder ∷ [])
+    ++ cond (carries (e .kind)) [] (tried p (between 0 0) (e .order) ∷ [])
 
+-- an entry at bit p
 abbrev pub entryTries : ℕ → ℕ → List Tried
-entryTries p c = fieldTries p (entryFields c) (range 0 maxCall ∷ [])
+entryTries p c = fieldTries p (entryFields c) (between 0 maxCall ∷ [])
 
 -- items whose fields follow one another from bit p on
 unfoldable pub manyTries : {A : Type 0} → (ℕ → A → List Tried) → (A → List Field) → ℕ → List A → List Tried
@@ -71,7 +73,7 @@ manyTries tries fields p (x ∷ xs) = tries p x ++ manyTries tries fields (p + s
 -- a line-up from bit p on: its length n, and the first n of the entries es
 unfoldable pub lineupTries : ℕ → ℕ → List ℕ → List Tried
 lineupTries p n es =
-    fieldTries p (lengthField n ∷ []) (range 0 maxEntries ∷ [])
+    fieldTries p (lengthField n ∷ []) (between 0 maxEntries ∷ [])
     ++ manyTries entryTries entryFields (p + lengthField n .width) (take n es)
 
 -- line-ups of these lengths, one after the other
@@ -79,16 +81,17 @@ unfoldable pub lineupsTries : ℕ → List ℕ → List ℕ → List Tried
 lineupsTries p [] es = []
 lineupsTries p (n ∷ ns) es = lineupTries p n es ++ lineupsTries (p + span (lineupFields (take n es))) ns (drop n es)
 
--- the numbers in the places that are not in use
+-- the numbers of an event
 abbrev pub eventNumbers : Event → List ℕ
 eventNumbers e = numberOf (e .kind) ∷ e .station ∷ e .order ∷ []
 
+-- the numbers in the places that are not in use
 abbrev pub unused : Recording → List ℕ
 unused r = joined eventNumbers (drop (r .count) (r .events)) ++ (drop (r .stations) (r .lengths) ++ drop (total (usedLengths r)) (r .entries))
 
 -- numbers that must be zero, told at bit p
 abbrev pub zeroTries : ℕ → List ℕ → List Tried
-zeroTries p vs = map (λ v. tried p (range 0 0) v) vs
+zeroTries p vs = map (λ v. tried p (between 0 0) v) vs
 
 -- the fields of a record, in the sequence of the file
 unfoldable pub usedTries : Recording → List Tried
@@ -103,8 +106,9 @@ recordTries r = usedTries r ++ zeroTries (span (recordFields r)) (unused r)
 
 -- ---- the first that is outside its range
 
+-- the number is within its range
 abbrev pub InRange : Tried → Type 0
-InRange t = (t .range .low ≤ t .value) × (t .value ≤ t .range .high)
+InRange t = (t .bounds .low ≤ t .value) × (t .value ≤ t .bounds .high)
 
 -- the first of these that is outside its range is told as t
 pub record FirstOut (ts : List Tried) (t : Told) : Type 0 where
@@ -124,4 +128,4 @@ pub record Outside (r : Recording) (t : Told) : Type 0 where
 -- one after the other, up to the first that is outside
 unfoldable pub tryAll : List Tried → Result (Unit {0}) Told
 tryAll [] = Ok tt
-tryAll (t ∷ ts) = andThen (ranged (t .bit) (t .range .low) (t .range .high) (t .value)) (λ _. tryAll ts)
+tryAll (t ∷ ts) = andThen (ranged (t .bit) (t .bounds .low) (t .bounds .high) (t .value)) (λ _. tryAll ts)

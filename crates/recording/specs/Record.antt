@@ -9,29 +9,35 @@ use Rattle.recording.specs.declared.record.EventKind.the-variants.{PostCalled,
 use Rattle.recording.specs.declared.record.Event.{Event}
 use Rattle.recording.specs.declared.record.Recording.{Recording}
 
--- the highest code of a kind of lane and number of a kind of event, the most stations, events, entries of one line-up and entries of all, the
--- highest order and call number
+-- the highest code of a kind of lane
 abbrev pub maxCode : ℕ
 maxCode = 3
 
+-- the highest number of a kind of event
 abbrev pub maxKind : ℕ
 maxKind = 4
 
+-- the most stations
 abbrev pub maxStations : ℕ
 maxStations = 8
 
+-- the most events
 abbrev pub maxEvents : ℕ
 maxEvents = 1024
 
+-- the most entries of one line-up
 abbrev pub maxEntries : ℕ
 maxEntries = 512
 
+-- the most entries of all line-ups together
 abbrev pub allEntries : ℕ
 allEntries = 4096
 
+-- the highest order
 abbrev pub maxOrder : ℕ
 maxOrder = 4095
 
+-- the highest call number
 abbrev pub maxCall : ℕ
 maxCall = 511
 

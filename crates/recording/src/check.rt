@@ -14,7 +14,6 @@ ghost use Rattle.std.specs.declared.result.Result.the-variants.{Ok, Err};
 ghost use lib.ListN.{drop, length, take};
 ghost use mathlib.Core.Path.{_≡_};
 use crate::fault::FieldFault;
-use crate::range::ranged;
 use crate::layout::CODE_WIDTH;
 use crate::layout::COUNT_WIDTH;
 use crate::layout::EDITION_WIDTH;
@@ -22,8 +21,9 @@ use crate::layout::ENTRY_WIDTH;
 use crate::layout::KIND_WIDTH;
 use crate::layout::LENGTH_WIDTH;
 use crate::layout::ORDER_WIDTH;
-use crate::layout::STATIONS_WIDTH;
 use crate::layout::STATION_WIDTH;
+use crate::layout::STATIONS_WIDTH;
+use crate::range::ranged;
 use crate::record::ALL_ENTRIES;
 use crate::record::Event;
 use crate::record::MAX_CALL;
@@ -113,7 +113,11 @@ fn check_entries(entries: &[u16], bit: usize) -> Result<usize, FieldFault>
 }
 
 /// Tries the line-up at a position, which has so many entries.
-fn check_lineup(count: u16, entries: &[u16; ALL_ENTRIES], at: Position) -> Result<Position, FieldFault>
+fn check_lineup(
+    count: u16,
+    entries: &[u16; ALL_ENTRIES],
+    at: Position,
+) -> Result<Position, FieldFault>
     requires room { ⌜ at .index + maxEntries ≤ allEntries ⌝ }
     requires countable { ⌜ at .bit < 2 ^ 58 ⌝ }
     ensures { λ r. ⌜ Cases r

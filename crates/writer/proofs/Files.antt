@@ -14,28 +14,28 @@ use Rattle.bits.proofs.Spells.{spelled-split}
 use Rattle.recording.specs.declared.record.Event.{Event}
 use Rattle.recording.specs.declared.record.Recording.{Recording}
 use Rattle.recording.specs.Layout.{IsFile, Laid, bits, entryFields, eventFields, gap, headerFields, lineupFields, recordFields, span}
-use Rattle.recording.specs.Record.{All, EventOk, Limits, carries, lineupsOf, maxCall, usedEvents, usedLengths}
-use Rattle.recording.proofs.Layouts.{code-most, laid-same, span-append}
+use Rattle.recording.specs.Record.{All, EventOk, Limits, carries, lineupsOf, maxCall, maxOrder, maxStations, usedEvents, usedLengths}
+use Rattle.recording.proofs.Layouts.{kind-most, laid-same, span-append}
 use Rattle.recording.proofs.Lineups.{LineupOk, all-append, all-parts, full-entries}
-use Rattle.writer.specs.Laying.{Fits, Ready, Wrote, fillingFields}
+use Rattle.writer.specs.Laying.{Fits, Ready, LaidOver, fillingFields}
 use Rattle.writer.proofs.Lays.{ready-next, wrote-append}
 use Rattle.writer.specs.Writing.{fileSize}
 
 -- ---- every value fits its field
 
-order-fits : (e : Event) (b : Bool) → e .order ≤ 4095 → All Fits (cond b (bits 12 (e .order) ∷ []) [])
+order-fits : (e : Event) (b : Bool) → e .order ≤ maxOrder → All Fits (cond b (bits 12 (e .order) ∷ []) [])
 unfolding All
 order-fits e true o = (omega arith, tt)
 order-fits e false o = tt
 
-event-fits : (st : ℕ) (e : Event) → st ≤ 8 → EventOk st e → All Fits (eventFields e)
+event-fits : (st : ℕ) (e : Event) → st ≤ maxStations → EventOk st e → All Fits (eventFields e)
 unfolding eventFields All
 event-fits st e h o =
-    let k = code-most (e .kind) in
+    let k = kind-most (e .kind) in
     let s = o .station in
     (omega arith, (omega arith, order-fits e (carries (e .kind)) (o .order)))
 
-events-fit : (st : ℕ) (es : List Event) → st ≤ 8 → All (EventOk st) es → All Fits (joined eventFields es)
+events-fit : (st : ℕ) (es : List Event) → st ≤ maxStations → All (EventOk st) es → All Fits (joined eventFields es)
 unfolding All
 events-fit st [] h o = tt
 events-fit st (e ∷ es) h o = all-append Fits (eventFields e) (joined eventFields es) (event-fits st e h (o .0)) (events-fit st es h (o .1))
@@ -110,19 +110,19 @@ laid-zeros bs (suc n) p h =
     let e : suc n ≡ 1 + n = omega arith in
     rw (e, spelled-split bs p 1 n, h .0, laid-zeros bs n (p + 1) (h .1)) (omega arith)
 
-pub record-wrote : (a b c d : List ℕ) (p q s : ℕ) (r : Recording) → Wrote a b 0 p (headerFields r) → Wrote b c p q (joined eventFields (usedEvents r))
-    → Wrote c d q s (joined lineupFields (lineupsOf r)) → Wrote a d 0 s (recordFields r)
+pub record-wrote : (a b c d : List ℕ) (p q s : ℕ) (r : Recording) → LaidOver a b 0 p (headerFields r) → LaidOver b c p q (joined eventFields (usedEvents r))
+    → LaidOver c d q s (joined lineupFields (lineupsOf r)) → LaidOver a d 0 s (recordFields r)
 unfolding recordFields
 record-wrote a b c d p q s r f g h = wrote-append a b d 0 p s _ _ f (wrote-append b c d p q s _ _ g h)
 
 pub ready-filling : (a b : List ℕ) (p : ℕ) (r : Recording) → Ready (length a) 0 (recordFields r ++ fillingFields (span (recordFields r)))
-    → Wrote a b 0 p (recordFields r) → Ready (length b) p (fillingFields p)
+    → LaidOver a b 0 p (recordFields r) → Ready (length b) p (fillingFields p)
 ready-filling a b p r h f =
     let s = f .end in
     let t : span (recordFields r) ≡ p = omega arith in
     rw t at (ready-next a b 0 p (recordFields r) (fillingFields (span (recordFields r))) h f)
 
-pub file-laid : (a b c : List ℕ) (p q : ℕ) (r : Recording) → Wrote a b 0 p (recordFields r) → Wrote b c p q (fillingFields p) → length a ≡ fileSize r → IsFile c r
+pub file-laid : (a b c : List ℕ) (p q : ℕ) (r : Recording) → LaidOver a b 0 p (recordFields r) → LaidOver b c p q (fillingFields p) → length a ≡ fileSize r → IsFile c r
 file-laid a b c p q r f g e =
     let s = f .end in
     let t : p ≡ span (recordFields r) = omega arith in

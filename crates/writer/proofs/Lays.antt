@@ -14,14 +14,14 @@ use Rattle.recording.specs.Layout.{Field, Laid, bits, lineupFields, span}
 use Rattle.recording.specs.Record.{parts, total}
 use Rattle.recording.proofs.Layouts.{laid-append, laid-same, span-append}
 use Rattle.recording.proofs.Lineups.{all-split, parts-push, total-append}
-use Rattle.writer.specs.Laying.{Fits, Ready, Wrote}
+use Rattle.writer.specs.Laying.{Fits, Ready, LaidOver}
 
-pub wrote-none : (bs : List ℕ) (p : ℕ) → Wrote bs bs p p []
+pub wrote-none : (bs : List ℕ) (p : ℕ) → LaidOver bs bs p p []
 unfolding Laid span
 wrote-none bs p = record { laid = tt; end = sym (add-zero p); others = λ k h. refl; long = refl }
 
 -- one field, set to a value that fits it
-pub wrote-set : (old new : List ℕ) (p q w v : ℕ) → v < 2 ^ w → q ≡ p + w → Overwritten old new p w (v % 2 ^ w) → Wrote old new p q (bits w v ∷ [])
+pub wrote-set : (old new : List ℕ) (p q w v : ℕ) → v < 2 ^ w → q ≡ p + w → Overwritten old new p w (v % 2 ^ w) → LaidOver old new p q (bits w v ∷ [])
 unfolding Laid span
 wrote-set old new p q w v h e o =
     record {
@@ -31,7 +31,7 @@ wrote-set old new p q w v h e o =
       long = o .long;
     }
 
-pub wrote-append : (a b c : List ℕ) (p q r : ℕ) (fs gs : List Field) → Wrote a b p q fs → Wrote b c q r gs → Wrote a c p r (fs ++ gs)
+pub wrote-append : (a b c : List ℕ) (p q r : ℕ) (fs gs : List Field) → LaidOver a b p q fs → LaidOver b c q r gs → LaidOver a c p r (fs ++ gs)
 wrote-append a b c p q r fs gs f g =
     let e = f .end in
     let d = g .end in
@@ -61,7 +61,7 @@ module _ (n p : ℕ) (fs gs : List Field) (h : Ready n p (fs ++ gs)) where
       let b = h .countable in
       record { fits = all-split Fits fs gs (h .fits) .1; room = omega arith; countable = omega arith }
 
-pub ready-next : (old new : List ℕ) (p q : ℕ) (fs gs : List Field) → Ready (length old) p (fs ++ gs) → Wrote old new p q fs → Ready (length new) q gs
+pub ready-next : (old new : List ℕ) (p q : ℕ) (fs gs : List Field) → Ready (length old) p (fs ++ gs) → LaidOver old new p q fs → Ready (length new) q gs
 ready-next old new p q fs gs h w = rw (w .long) (ready-back (length old) p fs gs h q (w .end))
 
 -- ---- items, one after the other
@@ -73,13 +73,13 @@ module _ {A : Type 0} (fields : A → List Field) (xs : List A) (i : ℕ) (d : A
   pub ready-items : (n e q : ℕ) → q ≡ e + span (fields (getD xs i d)) → Ready n e (joined fields (drop i xs)) → Ready n q (joined fields (drop (i + 1) xs))
   ready-items n e q s r = ready-back n e (fields (getD xs i d)) (joined fields (drop (i + 1) xs)) (rw (drop-more xs i d h) at r) q s
 
-  pub wrote-item : (a b c : List ℕ) (p q r : ℕ) → Wrote a b p q (joined fields (take i xs)) → Wrote b c q r (fields (getD xs i d))
-      → Wrote a c p r (joined fields (take (i + 1) xs))
+  pub wrote-item : (a b c : List ℕ) (p q r : ℕ) → LaidOver a b p q (joined fields (take i xs)) → LaidOver b c q r (fields (getD xs i d))
+      → LaidOver a c p r (joined fields (take (i + 1) xs))
   wrote-item a b c p q r f g =
       rw (take-more xs i d h, ← joined-more fields [] (take i xs) (getD xs i d)) (wrote-append a b c p q r (joined fields (take i xs)) (fields (getD xs i d)) f g)
 
 pub wrote-all : {A : Type 0} (fields : A → List Field) (xs : List A) (i : ℕ) → length xs ≤ i → (a b : List ℕ) (p q : ℕ)
-    → Wrote a b p q (joined fields (take i xs)) → Wrote a b p q (joined fields xs)
+    → LaidOver a b p q (joined fields (take i xs)) → LaidOver a b p q (joined fields xs)
 wrote-all fields xs i h a b p q f = rw (take-all i xs h) at f
 
 -- ---- line-ups, one after the other
@@ -103,14 +103,14 @@ module _ (ns es : List ℕ) (i s : ℕ) (h : i < length ns) where
   unfolding parts
   lineups-ready n q r = rw (drop-drop (getD ns i 0) s es) at (rw (drop-more ns i 0 h) at r)
 
-  pub lineups-wrote : s ≡ total (take i ns) → (a b c : List ℕ) (p q r : ℕ) → Wrote a b p q (joined lineupFields (parts (take i ns) es))
-      → Wrote b c q r (lineupFields (take (getD ns i 0) (drop s es))) → Wrote a c p r (joined lineupFields (parts (take (i + 1) ns) es))
+  pub lineups-wrote : s ≡ total (take i ns) → (a b c : List ℕ) (p q r : ℕ) → LaidOver a b p q (joined lineupFields (parts (take i ns) es))
+      → LaidOver b c q r (lineupFields (take (getD ns i 0) (drop s es))) → LaidOver a c p r (joined lineupFields (parts (take (i + 1) ns) es))
   lineups-wrote e a b c p q r f g =
       rw (take-more ns i 0 h, parts-push (take i ns) es (getD ns i 0), ← e, ← joined-more lineupFields [] (parts (take i ns) es) (take (getD ns i 0) (drop s es)))
       (wrote-append a b c p q r (joined lineupFields (parts (take i ns) es)) (lineupFields (take (getD ns i 0) (drop s es))) f g)
 
-pub lineups-all : (ns es : List ℕ) (i : ℕ) → length ns ≤ i → (a b : List ℕ) (p q : ℕ) → Wrote a b p q (joined lineupFields (parts (take i ns) es))
-    → Wrote a b p q (joined lineupFields (parts ns es))
+pub lineups-all : (ns es : List ℕ) (i : ℕ) → length ns ≤ i → (a b : List ℕ) (p q : ℕ) → LaidOver a b p q (joined lineupFields (parts (take i ns) es))
+    → LaidOver a b p q (joined lineupFields (parts ns es))
 lineups-all ns es i h a b p q f = rw (take-all i ns h) at f
 
 -- ---- the filling
@@ -122,5 +122,5 @@ module _ (n i : ℕ) (h : i < n) where
   pub ready-bit : (k q : ℕ) → Ready k q (replicate (n - i) (bits 1 0)) → Ready k q (bits 1 0 ∷ replicate (n - (i + 1)) (bits 1 0))
   ready-bit k q r = rw next-bit at r
 
-  pub wrote-bit : (a b c : List ℕ) (p q r : ℕ) → Wrote a b p q (replicate i (bits 1 0)) → Wrote b c q r (bits 1 0 ∷ []) → Wrote a c p r (replicate (i + 1) (bits 1 0))
+  pub wrote-bit : (a b c : List ℕ) (p q r : ℕ) → LaidOver a b p q (replicate i (bits 1 0)) → LaidOver b c q r (bits 1 0 ∷ []) → LaidOver a c p r (replicate (i + 1) (bits 1 0))
   wrote-bit a b c p q r f g = rw (← replicate-more i (bits 1 0)) (wrote-append a b c p q r (replicate i (bits 1 0)) (bits 1 0 ∷ []) f g)

@@ -19,7 +19,7 @@ pub record Ready (bytes p : ℕ) (fs : List Field) : Type 0 where
   pub countable : p + span fs < 2 ^ 60
 
 -- the bytes new are the bytes old, but for the fields fs, which stand from bit p up to bit q
-pub record Wrote (old new : List ℕ) (p q : ℕ) (fs : List Field) : Type 0 where
+pub record LaidOver (old new : List ℕ) (p q : ℕ) (fs : List Field) : Type 0 where
   pub laid : Laid new p fs
   pub end : q ≡ p + span fs
   pub others : (k : ℕ) → (k < p) ⊎ (q ≤ k) → bitAt new k ≡ bitAt old k

@@ -4,15 +4,15 @@
 pub mod fault;
 pub mod round_trip;
 
-ghost use Prim.Native.Nat.{_*_, _<_, _≤_, _^_};
+ghost use Prim.Native.Nat.{_<_, _≤_, _^_};
 ghost use Rattle.bits.specs.Widths.{bitsOf};
 ghost use Rattle.recording.specs.Layout.{IsFile, bits, entryFields, eventFields, headerFields, lineupFields};
 ghost use Rattle.recording.specs.Record.{Limits, allEntries, parts, total};
 ghost use Rattle.std.specs.Joined.{joined};
 ghost use Rattle.std.specs.Results.{Cases};
 ghost use Rattle.writer.specs.Faults.{writeTold};
-ghost use Rattle.writer.specs.Laying.{Ready, Wrote, fillingFields};
-ghost use Rattle.writer.specs.Writing.{Unwritten, Written, fileSize};
+ghost use Rattle.writer.specs.Laying.{Ready, LaidOver, fillingFields};
+ghost use Rattle.writer.specs.Writing.{Unwritten, Written, fileSize, maxSize};
 ghost use lib.ListN.{length};
 ghost use mathlib.Core.List.{[], _∷_};
 ghost use mathlib.Core.Path.{_≡_};
@@ -30,16 +30,19 @@ use recording::layout::FILLING_WIDTH;
 use recording::layout::KIND_WIDTH;
 use recording::layout::LENGTH_WIDTH;
 use recording::layout::ORDER_WIDTH;
-use recording::layout::STATIONS_WIDTH;
 use recording::layout::STATION_WIDTH;
+use recording::layout::STATIONS_WIDTH;
 use recording::record::ALL_ENTRIES;
 use recording::record::Event;
 use recording::record::Recording;
 
+/// How many bytes are enough for any file.
+pub const LONGEST: usize = 6925;
+
 /// Sets a field for which there is room.
 fn put(bytes: &mut [u8], place: usize, width: Width, value: u16) -> usize
     requires { ⌜ Ready (length (now bytes)) place (bits (bitsOf width) value ∷ []) ⌝ }
-    ensures { λ end. ⌜ Wrote (now (bytes .entry)) (now (bytes .exit)) place end (bits (bitsOf width) value ∷ []) ⌝ }
+    ensures { λ end. ⌜ LaidOver (now (bytes .entry)) (now (bytes .exit)) place end (bits (bitsOf width) value ∷ []) ⌝ }
 {
     match set(bytes, place, width, value) {
         Ok(end) => end,
@@ -50,7 +53,7 @@ fn put(bytes: &mut [u8], place: usize, width: Width, value: u16) -> usize
 /// Lays out edition, code, stations and event count.
 fn lay_header(recording: &Recording, bytes: &mut [u8]) -> usize
     requires { ⌜ Ready (length (now bytes)) 0 (headerFields (now recording)) ⌝ }
-    ensures { λ end. ⌜ Wrote (now (bytes .entry)) (now (bytes .exit)) 0 end (headerFields (now (recording .entry))) ⌝ }
+    ensures { λ end. ⌜ LaidOver (now (bytes .entry)) (now (bytes .exit)) 0 end (headerFields (now (recording .entry))) ⌝ }
 {
     let place = put(bytes, 0, EDITION_WIDTH, EDITION);
     let place = put(bytes, place, CODE_WIDTH, recording.code);
@@ -61,7 +64,7 @@ fn lay_header(recording: &Recording, bytes: &mut [u8]) -> usize
 /// Lays out an event.
 fn lay_event(event: &Event, bytes: &mut [u8], place: usize) -> usize
     requires { ⌜ Ready (length (now bytes)) place (eventFields (now event)) ⌝ }
-    ensures { λ end. ⌜ Wrote (now (bytes .entry)) (now (bytes .exit)) place end (eventFields (now (event .entry))) ⌝ }
+    ensures { λ end. ⌜ LaidOver (now (bytes .entry)) (now (bytes .exit)) place end (eventFields (now (event .entry))) ⌝ }
 {
     let place = put(bytes, place, KIND_WIDTH, event.kind.number());
     let place = put(bytes, place, STATION_WIDTH, event.station);
@@ -75,7 +78,7 @@ fn lay_event(event: &Event, bytes: &mut [u8], place: usize) -> usize
 /// Lays out events, one after the other.
 fn lay_events(events: &[Event], bytes: &mut [u8], place: usize) -> usize
     requires { ⌜ Ready (length (now bytes)) place (joined eventFields (now events)) ⌝ }
-    ensures { λ end. ⌜ Wrote (now (bytes .entry)) (now (bytes .exit)) place end (joined eventFields (now (events .entry))) ⌝ }
+    ensures { λ end. ⌜ LaidOver (now (bytes .entry)) (now (bytes .exit)) place end (joined eventFields (now (events .entry))) ⌝ }
 {
     let mut end = place;
     for event in events {
@@ -87,7 +90,7 @@ fn lay_events(events: &[Event], bytes: &mut [u8], place: usize) -> usize
 /// Lays out entries, one after the other.
 fn lay_entries(entries: &[u16], bytes: &mut [u8], place: usize) -> usize
     requires { ⌜ Ready (length (now bytes)) place (joined entryFields (now entries)) ⌝ }
-    ensures { λ end. ⌜ Wrote (now (bytes .entry)) (now (bytes .exit)) place end (joined entryFields (now (entries .entry))) ⌝ }
+    ensures { λ end. ⌜ LaidOver (now (bytes .entry)) (now (bytes .exit)) place end (joined entryFields (now (entries .entry))) ⌝ }
 {
     let mut end = place;
     for entry in entries {
@@ -99,7 +102,7 @@ fn lay_entries(entries: &[u16], bytes: &mut [u8], place: usize) -> usize
 /// Lays out a line-up: its length, then its entries.
 fn lay_lineup(lineup: &[u16], bytes: &mut [u8], place: usize) -> usize
     requires { ⌜ Ready (length (now bytes)) place (lineupFields (now lineup)) ⌝ }
-    ensures { λ end. ⌜ Wrote (now (bytes .entry)) (now (bytes .exit)) place end (lineupFields (now (lineup .entry))) ⌝ }
+    ensures { λ end. ⌜ LaidOver (now (bytes .entry)) (now (bytes .exit)) place end (lineupFields (now (lineup .entry))) ⌝ }
 {
     let place = put(bytes, place, LENGTH_WIDTH, lineup.len() as u16);
     lay_entries(lineup, bytes, place)
@@ -114,7 +117,7 @@ fn lay_lineups(
 ) -> usize
     requires ready { ⌜ Ready (length (now bytes)) place (joined lineupFields (parts (now lengths) (now entries))) ⌝ }
     requires there { ⌜ total (now lengths) ≤ allEntries ⌝ }
-    ensures { λ end. ⌜ Wrote (now (bytes .entry)) (now (bytes .exit)) place end (joined lineupFields (parts (now (lengths .entry)) (now (entries .entry)))) ⌝ }
+    ensures { λ end. ⌜ LaidOver (now (bytes .entry)) (now (bytes .exit)) place end (joined lineupFields (parts (now (lengths .entry)) (now (entries .entry)))) ⌝ }
 {
     let mut start = 0;
     let mut end = place;
@@ -129,7 +132,7 @@ fn lay_lineups(
 /// Lays out the zero bits up to the end of a byte.
 fn lay_filling(bytes: &mut [u8], place: usize) -> usize
     requires { ⌜ Ready (length (now bytes)) place (fillingFields place) ⌝ }
-    ensures { λ end. ⌜ Wrote (now (bytes .entry)) (now (bytes .exit)) place end (fillingFields place) ⌝ }
+    ensures { λ end. ⌜ LaidOver (now (bytes .entry)) (now (bytes .exit)) place end (fillingFields place) ⌝ }
 {
     let mut bit = place;
     for _ in 0..(8 - place % 8) % 8 {
@@ -168,9 +171,10 @@ fn lay_front(recording: &Recording, buffer: &mut [u8], size: usize)
 /// was. A record that is not within the limits is refused, and then a buffer that is too short; either leaves the buffer
 /// as it was.
 pub fn write(recording: &Recording, buffer: &mut [u8]) -> Result<usize, WriteFault>
-    ensures { λ r. ⌜ Cases r
+    ensures result { λ r. ⌜ Cases r
         (λ size. Written (now (recording .entry)) (now (buffer .entry)) (now (buffer .exit)) size)
         (λ e. Unwritten (now (recording .entry)) (length (now (buffer .entry))) (writeTold e) × (now (buffer .exit) ≡ now (buffer .entry))) ⌝ }
+    ensures longest { λ _. do ⌜ (← ⟦LONGEST⟧ .exit) ≡ maxSize ⌝ }
 {
     let bits = check(recording)?;
     let needed = bits.div_ceil(8);

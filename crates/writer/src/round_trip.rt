@@ -1,14 +1,11 @@
 //! Round trips: what was written is read back, and what was read is written back.
-ghost use Prim.Native.Nat.{_<_};
-ghost use Rattle.bits.specs.Told.{told};
-ghost use Rattle.bits.specs.declared.told.Place.the-variants.{Needs};
 ghost use Rattle.reader.specs.Faults.{readTold};
 ghost use Rattle.reader.specs.Reading.{Faulty, Holds};
 ghost use Rattle.recording.specs.Record.{allZero};
 ghost use Rattle.std.specs.Results.{Cases};
 ghost use Rattle.writer.specs.Faults.{writeTold};
-ghost use Rattle.writer.specs.Writing.{Unwritten, Written};
-ghost use lib.ListN.{drop, length, take};
+ghost use Rattle.writer.specs.Writing.{Rewritten, Unwritten, Written};
+ghost use lib.ListN.{length, take};
 ghost use mathlib.Core.Path.{_≡_};
 use crate::fault::WriteFault;
 use crate::write;
@@ -37,16 +34,10 @@ pub fn write_then_read(
     }
 }
 
-/// Writes the recording of a file.
+/// Writes the recording of a file. The file itself is there for the contract, which says that it comes back.
 fn write_back(file: &[u8], recording: &Recording, buffer: &mut [u8]) -> Result<usize, WriteFault>
     requires { ⌜ Holds (now file) (now recording) ⌝ }
-    ensures { λ r. ⌜ Cases r
-        (λ size. (size ≡ length (now (file .entry)))
-        × (take size (now (buffer .exit)) ≡ now (file .entry))
-        × (drop size (now (buffer .exit)) ≡ drop size (now (buffer .entry))))
-        (λ e. (length (now (buffer .entry)) < length (now (file .entry)))
-        × (writeTold e ≡ told 17 (Needs (length (now (file .entry)))))
-        × (now (buffer .exit) ≡ now (buffer .entry))) ⌝ }
+    ensures { λ r. ⌜ Rewritten (now (file .entry)) (now (buffer .entry)) (now (buffer .exit)) r ⌝ }
 {
     write(recording, buffer)
 }
@@ -59,13 +50,7 @@ pub fn read_then_write(
     buffer: &mut [u8],
 ) -> Result<Result<usize, WriteFault>, ReadFault>
     ensures { λ r. ⌜ Cases r
-        (λ w. Holds (now (file .entry)) (now (recording .exit)) × Cases w
-        (λ size. (size ≡ length (now (file .entry)))
-        × (take size (now (buffer .exit)) ≡ now (file .entry))
-        × (drop size (now (buffer .exit)) ≡ drop size (now (buffer .entry))))
-        (λ e. (length (now (buffer .entry)) < length (now (file .entry)))
-        × (writeTold e ≡ told 17 (Needs (length (now (file .entry)))))
-        × (now (buffer .exit) ≡ now (buffer .entry))))
+        (λ w. Holds (now (file .entry)) (now (recording .exit)) × Rewritten (now (file .entry)) (now (buffer .entry)) (now (buffer .exit)) w)
         (λ e. Faulty (now (file .entry)) (readTold e) × (now (recording .exit) ≡ allZero) × (now (buffer .exit) ≡ now (buffer .entry))) ⌝ }
 {
     read(file, recording)?;

@@ -1,10 +1,10 @@
 use lib.ListN.{drop, length, take}
 use Rattle.std.specs.Joined.{joined}
 use Rattle.recording.specs.Layout.{eventFields}
-use Rattle.writer.specs.Laying.{Ready, Wrote}
+use Rattle.writer.specs.Laying.{Ready, LaidOver}
 use Rattle.writer.proofs.lay_events.Given as given
 
 abbrev pub Inv-loop-event : given.InvT-loop-event
 Inv-loop-event l =
-    Wrote (l .entry .bytes) (l .bytes) (l .place) (l .end) (joined eventFields (take (l .event-index) (l .events)))
+    LaidOver (l .entry .bytes) (l .bytes) (l .place) (l .end) (joined eventFields (take (l .event-index) (l .events)))
     × Ready (length (l .bytes)) (l .end) (joined eventFields (drop (l .event-index) (l .events)))
