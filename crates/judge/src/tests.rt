@@ -1,9 +1,11 @@
-//! Files and the lines that are told of them.
+//! Files and the lines that are told of them, and records and the files that are written of them.
 use super::*;
 use bits::told::Place;
+use bits::told::Told;
 use recording::record::Event;
 use recording::record::EventKind;
 use std::test::*;
+use writer::round_trip::read_then_write;
 use writer::write;
 
 /// A post of 5 at the only station, answered, and a draw that gave 5; the line-up names both calls.
@@ -82,35 +84,66 @@ fn writes_the_sample() -> Result<(), Fail> {
     check_eq(buffer[14], 0xFF)
 }
 
-/// Checks that writing into 12 bytes is refused by that number at that place, and leaves them.
-fn refuses(recording: &Recording, number: usize, place: usize) -> Result<(), Fail> {
+/// What writing into 12 bytes is refused by; they are left as they were.
+fn refusal(recording: &Recording) -> Result<Told, Fail> {
     let mut buffer = [0xFF; 12];
-    let told = match write(recording, &mut buffer) {
-        Ok(_) => return Err(Fail::new("it is written")),
-        Err(fault) => fault.told(),
-    };
+    let result = write(recording, &mut buffer);
     check(buffer == [0xFF; 12])?;
-    check_eq(told.number, number)?;
+    match result {
+        Ok(_) => Err(Fail::new("it is written")),
+        Err(fault) => Ok(fault.told()),
+    }
+}
+
+/// Checks that a record is refused by 2 at that bit.
+fn outside(recording: &Recording, bit: usize) -> Result<(), Fail> {
+    let told = refusal(recording)?;
+    check_eq(told.number, 2)?;
     match told.place {
-        Place::AtBit(bit) => check_eq(bit, place),
-        Place::Needs(size) => check_eq(size, place),
-        _ => Err(Fail::new("it is told elsewhere")),
+        Place::AtBit(place) => check_eq(place, bit),
+        _ => Err(Fail::new("it is not told at a bit")),
     }
 }
 
 #[test]
-fn tells_why_it_does_not_write() -> Result<(), Fail> {
-    refuses(&sample(), 17, 13)?;
-    refuses(&Recording::zero(), 2, 8)?;
+fn tells_what_a_record_has_out_of_range() -> Result<(), Fail> {
+    outside(&Recording::zero(), 8)?;
     let mut recording = sample();
     recording.lengths[7] = 1;
-    refuses(&recording, 2, 99)?;
+    outside(&recording, 99)?;
     recording.entries[1] = 512;
-    refuses(&recording, 2, 90)?;
+    outside(&recording, 90)?;
+    recording.lengths[0] = 513;
+    outside(&recording, 71)?;
     recording.events[1].order = 1;
-    refuses(&recording, 2, 41)?;
+    outside(&recording, 41)?;
+    recording.events[1].station = 1;
+    outside(&recording, 44)?;
     recording.events[0].order = 4096;
-    refuses(&recording, 2, 29)
+    outside(&recording, 29)?;
+    recording.code = 4;
+    outside(&recording, 4)
+}
+
+#[test]
+fn tells_how_long_the_file_is() -> Result<(), Fail> {
+    let told = refusal(&sample())?;
+    check_eq(told.number, 17)?;
+    match told.place {
+        Place::Needs(size) => check_eq(size, 13),
+        _ => Err(Fail::new("it is not told as a size")),
+    }
+}
+
+#[test]
+fn writes_back_what_it_read() -> Result<(), Fail> {
+    let mut recording = Recording::zero();
+    let mut buffer = [0xFF; 13];
+    match read_then_write(&SAMPLE, &mut recording, &mut buffer) {
+        Ok(Ok(size)) => check_eq(size, 13)?,
+        _ => return Err(Fail::new("it is refused")),
+    }
+    check(buffer == SAMPLE)
 }
 
 #[test]
