@@ -17,7 +17,7 @@ use Rattle.recording.specs.Layout.{IsFile, Laid, bits, entryFields, eventFields
 use Rattle.recording.specs.Record.{All, EventOk, Limits, carries, lineupsOf, maxCall, maxOrder, maxStations, usedEvents, usedLengths}
 use Rattle.recording.proofs.Layouts.{kind-most, laid-same, span-append}
 use Rattle.recording.proofs.Lineups.{LineupOk, all-append, all-parts, full-entries}
-use Rattle.writer.specs.Laying.{Fits, Ready, LaidOver, fillingFields}
+use Rattle.writer.specs.Laying.{Fits, LaidOver, Ready, fillingFields}
 use Rattle.writer.proofs.Lays.{ready-next, wrote-append}
 use Rattle.writer.specs.Writing.{fileSize}
 

@@ -14,7 +14,7 @@ use Rattle.recording.specs.Layout.{Field, Laid, bits, lineupFields, span}
 use Rattle.recording.specs.Record.{parts, total}
 use Rattle.recording.proofs.Layouts.{laid-append, laid-same, span-append}
 use Rattle.recording.proofs.Lineups.{all-split, parts-push, total-append}
-use Rattle.writer.specs.Laying.{Fits, Ready, LaidOver}
+use Rattle.writer.specs.Laying.{Fits, LaidOver, Ready}
 
 pub wrote-none : (bs : List ℕ) (p : ℕ) → LaidOver bs bs p p []
 unfolding Laid span

@@ -11,7 +11,7 @@ ghost use Rattle.recording.specs.Record.{Limits, allEntries, parts, total};
 ghost use Rattle.std.specs.Joined.{joined};
 ghost use Rattle.std.specs.Results.{Cases};
 ghost use Rattle.writer.specs.Faults.{writeTold};
-ghost use Rattle.writer.specs.Laying.{Ready, LaidOver, fillingFields};
+ghost use Rattle.writer.specs.Laying.{LaidOver, Ready, fillingFields};
 ghost use Rattle.writer.specs.Writing.{Unwritten, Written, fileSize, maxSize};
 ghost use lib.ListN.{length};
 ghost use mathlib.Core.List.{[], _∷_};

@@ -1,7 +1,7 @@
 use lib.ListN.{drop, length, take}
 use Rattle.std.specs.Joined.{joined}
 use Rattle.recording.specs.Layout.{eventFields}
-use Rattle.writer.specs.Laying.{Ready, LaidOver}
+use Rattle.writer.specs.Laying.{LaidOver, Ready}
 use Rattle.writer.proofs.lay_events.Given as given
 
 abbrev pub Inv-loop-event : given.InvT-loop-event

@@ -1,7 +1,7 @@
 use Prim.Native.Nat.{_-_, _≤_}
 use lib.ListN.{length, replicate}
 use Rattle.recording.specs.Layout.{bits, gap}
-use Rattle.writer.specs.Laying.{Ready, LaidOver}
+use Rattle.writer.specs.Laying.{LaidOver, Ready}
 use Rattle.writer.proofs.lay_filling.Given as given
 
 abbrev pub Inv-loop : given.InvT-loop

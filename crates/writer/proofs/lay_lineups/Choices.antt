@@ -3,7 +3,7 @@ use lib.ListN.{drop, length, take}
 use Rattle.std.specs.Joined.{joined}
 use Rattle.recording.specs.Layout.{lineupFields}
 use Rattle.recording.specs.Record.{parts, total}
-use Rattle.writer.specs.Laying.{Ready, LaidOver}
+use Rattle.writer.specs.Laying.{LaidOver, Ready}
 use Rattle.writer.proofs.lay_lineups.Given as given
 
 abbrev pub Inv-loop-length : given.InvT-loop-length
