@@ -14,5 +14,5 @@ returns c =
     let m = and_mask v w in
     let hole = shl_whole (2 ^ w - 1) w t 32 (ones_lt w) (omega arith) in
     let field = shl_whole (v % 2 ^ w) w t 32 (mod_below v (2 ^ w) (pow_pos w)) (omega arith) in
-    rw (c.put-window.ensures, c.cleared-around.ensures, c.shift-shift.ensures, c.window.ensures, c.from.ensures, c.mask-ones.ensures, m, hole, field)
+    rw (c.put_window.ensures, c.cleared-around.ensures, c.shift-shift.ensures, c.window.ensures, c.from.ensures, c.mask-ones.ensures, m, hole, field)
     (pasted bs p w v c.requires.narrow c.requires.within)
