@@ -1,4 +1,6 @@
 //! The bit layer: numbers of a few bits, packed without gaps, most significant bit first.
+#![tactic(auto)]
+
 pub mod cursor;
 pub mod fault;
 mod paste;

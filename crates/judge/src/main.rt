@@ -1,4 +1,6 @@
 //! Reads a recording from standard input, and writes the verdict on it to standard output, in one line.
+#![tactic(auto)]
+
 ghost use Rattle.std.specs.Prelude.{◌≡◌, ◌≤◌, length, IfOk, MatchResult};
 ghost use Rattle.judge.specs.Judge.{record_left, refusal};
 ghost use Rattle.reader.specs.Reading.{decode};

@@ -1,4 +1,6 @@
 //! The kinds of bank that are supplied: queue, stack and pool.
+#![tactic(auto)]
+
 pub mod array;
 pub mod fault;
 pub mod kind;

@@ -3,6 +3,8 @@
 //! The functions that read fields ask that the cursor's place is below a power of two that leaves room for all that they
 //! read, so that no sum of places can wrap, and ensure how far they move the cursor at the most (`near`). `read` starts at
 //! bit 0.
+#![tactic(auto)]
+
 pub mod fault;
 
 ghost use Rattle.std.specs.Prelude.{◌≡◌, ℕ, ◌+◌, ◌-◌, ◌*◌, ◌^◌, ◌<◌, ◌≤◌, List, ◌++◌, map, length, drop, replicate, Ok, Err, MatchResult};

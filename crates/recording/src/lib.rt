@@ -1,4 +1,6 @@
 //! Recordings of a store's run: the record, and its limits.
+#![tactic(auto)]
+
 pub mod check;
 pub mod fault;
 pub mod layout;

@@ -1,4 +1,6 @@
 //! Verdicts on recordings: their faults, and the line that reports one.
+#![tactic(auto)]
+
 pub mod fault;
 mod line;
 pub mod report;

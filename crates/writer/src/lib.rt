@@ -1,6 +1,8 @@
 //! The writer of recordings: a record into a file's bytes.
 //!
 //! The functions that lay fields out are told the bit at which their part of the file begins, and give the bit after it.
+#![tactic(auto)]
+
 pub mod fault;
 pub mod round_trip;
 

@@ -7,4 +7,4 @@ returns c =
     let bs = c.args.bytes.now in
     let i = c.args.first in
     rw (c.byte.ensures, c.byte-2.ensures, c.byte-3.ensures)
-    (or_three _ _ _ (c.ok.bytes i).fits (c.ok.bytes _).fits (c.ok.bytes _).fits ∙ sym (three_bytes bs i (λ k. (c.ok.bytes k).fits)))
+    (or_three _ _ _ (c.type_inv.bytes i).fits (c.type_inv.bytes _).fits (c.type_inv.bytes _).fits ∙ sym (three_bytes bs i (λ k. (c.type_inv.bytes k).fits)))
