@@ -19,6 +19,6 @@ pub returns-in-3 : goal.returns-in-3
 unfolding kind_of
 returns-in-3 c = grind (arith, nat_tests)
 
-pub returns-in-default : goal.returns-in-default
+pub returns-in_default : goal.returns-in_default
 unfolding kind_of
-returns-in-default c = grind (arith, nat_tests)
+returns-in_default c = grind (arith, nat_tests)

@@ -6,12 +6,12 @@ use Rattle.reader.specs.Reading.{entry_at}
 use Rattle.reader.proofs.Many.{many_more, many_bad, many_all}
 use Rattle.reader.proofs.read_entries.Goals as goal
 
-pub returns-in-err-slot : goal.returns-in-err-slot
-returns-in-err-slot c =
-    let r = err_from_is_err_and c.from-residual.result c.from-residual.ensures.1 in
+pub returns-in_err-slot : goal.returns-in_err-slot
+returns-in_err-slot c =
+    let r = err_from_is_err_and c.from_residual.result c.from_residual.ensures.1 in
     let inv = c.loop-slot.invariant in
-    let h = c.in-err-slot.ensures in
-    let k : entry_at c.args.cursor.now.bytes.now c.loop-slot.cursor.place ≡ Err (read_told c.in-err-slot.field-0.0) = cc in
+    let h = c.in_err-slot.ensures in
+    let k : entry_at c.args.cursor.now.bytes.now c.loop-slot.cursor.place ≡ Err (read_told c.in_err-slot.field-0.0) = cc in
     rw (r.1, r.2) (record {
       bytes = h.bytes ∙ inv.0;
       near = omega (arith, h.near, inv.2);
@@ -21,11 +21,11 @@ returns-in-err-slot c =
 pub loop-slot-preserved : goal.loop-slot-preserved
 loop-slot-preserved c =
     let inv = c.loop-slot.invariant in
-    let h = c.in-ok-slot.ensures in
-    let k : entry_at c.args.cursor.now.bytes.now c.loop-slot.cursor.place ≡ Ok (c.in-ok-slot.field-0, c.field.new.cursor.place) = cc in
+    let h = c.in_ok-slot.ensures in
+    let k : entry_at c.args.cursor.now.bytes.now c.loop-slot.cursor.place ≡ Ok (c.in_ok-slot.field-0, c.field.new.cursor.place) = cc in
     let i : c.loop-slot.slot-index < length c.loop-slot.slots = omega arith in (
       h.bytes ∙ inv.0,
-      rw (take_more_set c.loop-slot.slots c.loop-slot.slot-index c.in-ok-slot.field-0 i) (many_more _ _ _ _ _ _ inv.1 _ _ (omega arith) k),
+      rw (take_more_set c.loop-slot.slots c.loop-slot.slot-index c.in_ok-slot.field-0 i) (many_more _ _ _ _ _ _ inv.1 _ _ (omega arith) k),
       omega (arith, h.near, inv.2),
     )
 

@@ -7,38 +7,38 @@ use Rattle.writer.proofs.Files.{file_laid, ready_file, ready_filling, record_wro
 use Rattle.writer.proofs.Lays.{ready_front, ready_next}
 use Rattle.writer.proofs.lay.Goals as goal
 
-pub lay-header-place-requires : goal.lay-header-place-requires
+pub lay_header-place-requires : goal.lay_header-place-requires
 unfolding record_fields
-lay-header-place-requires c =
+lay_header-place-requires c =
     let r = c.args.recording.now in
     ready_front _ _ (header_fields r) _ (ready_front _ _ (record_fields r) _ (ready_file r _ c.requires.limits c.requires.whole c.requires.countable))
 
-pub lay-events-place-requires : goal.lay-events-place-requires
+pub lay_events-place-requires : goal.lay_events-place-requires
 unfolding record_fields
-lay-events-place-requires c =
+lay_events-place-requires c =
     let r = c.args.recording.now in
     let a = ready_front _ _ (record_fields r) _ (ready_file r _ c.requires.limits c.requires.whole c.requires.countable) in
-    rw sub-zero (ready_front _ _ (flat_map event_fields (used_events r)) _ (ready_next _ _ _ _ (header_fields r) _ a c.lay-header-place.ensures))
+    rw sub-zero (ready_front _ _ (flat_map event_fields (used_events r)) _ (ready_next _ _ _ _ (header_fields r) _ a c.lay_header-place.ensures))
 
-pub lay-lineups-place-requires : goal.lay-lineups-place-requires
+pub lay_lineups-place-requires : goal.lay_lineups-place-requires
 unfolding record_fields
-lay-lineups-place-requires c =
+lay_lineups-place-requires c =
     let r = c.args.recording.now in
     let a = ready_front _ _ (record_fields r) _ (ready_file r _ c.requires.limits c.requires.whole c.requires.countable) in
-    let b = ready_next _ _ _ _ (header_fields r) _ a c.lay-header-place.ensures in
+    let b = ready_next _ _ _ _ (header_fields r) _ a c.lay_header-place.ensures in
     record {
-      ready = rw sub-zero (ready_next _ _ _ _ (flat_map event_fields (used_events r)) _ b (rw sub-zero at c.lay-events-place.ensures));
+      ready = rw sub-zero (ready_next _ _ _ _ (flat_map event_fields (used_events r)) _ b (rw sub-zero at c.lay_events-place.ensures));
       there = rw sub-zero (most_entries r c.requires.limits.fields);
     }
 
-pub lay-filling-requires : goal.lay-filling-requires
-lay-filling-requires c =
+pub lay_filling-requires : goal.lay_filling-requires
+lay_filling-requires c =
     let r = c.args.recording.now in
-    let w = record_wrote _ _ _ _ _ _ _ r c.lay-header-place.ensures (rw sub-zero at c.lay-events-place.ensures) (rw sub-zero at c.lay-lineups-place.ensures) in
+    let w = record_wrote _ _ _ _ _ _ _ r c.lay_header-place.ensures (rw sub-zero at c.lay_events-place.ensures) (rw sub-zero at c.lay_lineups-place.ensures) in
     ready_filling _ _ _ r (ready_file r _ c.requires.limits c.requires.whole c.requires.countable) w
 
 pub returns : goal.returns
 returns c =
     let r = c.args.recording.now in
-    let w = record_wrote _ _ _ _ _ _ _ r c.lay-header-place.ensures (rw sub-zero at c.lay-events-place.ensures) (rw sub-zero at c.lay-lineups-place.ensures) in
-    file_laid _ _ _ _ _ r w c.lay-filling.ensures c.requires.whole
+    let w = record_wrote _ _ _ _ _ _ _ r c.lay_header-place.ensures (rw sub-zero at c.lay_events-place.ensures) (rw sub-zero at c.lay_lineups-place.ensures) in
+    file_laid _ _ _ _ _ r w c.lay_filling.ensures c.requires.whole

@@ -18,19 +18,19 @@ pub put-requires : goal.put-requires
 unfolding event_fields
 put-requires c =
     let e = c.args.event.now in
-    let y = sym c.carries-order.ensures ∙ c.if-carries-order.true in
+    let y = sym c.carries_order.ensures ∙ c.if-carries_order.true in
     let a = ready_next _ _ _ _ (bits 3 (number_of e.kind) ∷ []) _ c.requires (rw c.number.ensures at c.put-place.ensures) in
     rw y at (ready_next _ _ _ _ (bits 3 e.station ∷ []) _ a c.put-place-2.ensures)
 
-pub returns-then-carries-order : goal.returns-then-carries-order
+pub returns-then-carries_order : goal.returns-then-carries_order
 unfolding event_fields
-returns-then-carries-order c =
-    let y = sym c.carries-order.ensures ∙ c.if-carries-order.true in
+returns-then-carries_order c =
+    let y = sym c.carries_order.ensures ∙ c.if-carries_order.true in
     let a = wrote_append _ _ _ _ _ _ _ _ c.put-place-2.ensures c.put.ensures in
     rw y (wrote_append _ _ _ _ _ _ _ _ (rw c.number.ensures at c.put-place.ensures) a)
 
-pub returns-else-carries-order : goal.returns-else-carries-order
+pub returns-else-carries_order : goal.returns-else-carries_order
 unfolding event_fields
-returns-else-carries-order c =
-    let y = sym c.carries-order.ensures ∙ c.if-carries-order.false in
+returns-else-carries_order c =
+    let y = sym c.carries_order.ensures ∙ c.if-carries_order.false in
     rw y (wrote_append _ _ _ _ _ _ _ _ (rw c.number.ensures at c.put-place.ensures) c.put-place-2.ensures)

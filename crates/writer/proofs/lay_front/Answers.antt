@@ -18,6 +18,6 @@ returns c =
       size = c.requires.size;
       room = c.requires.room;
       file = f;
-      only = λ bs h g. same_file bs _ c.args.recording.now h (front_small c.args.size _ (λ i. (c.type-inv.buffer i).fits)) g f;
+      only = λ bs h g. same_file bs _ c.args.recording.now h (front_small c.args.size _ (λ i. (c.type_inv.buffer i).fits)) g f;
       rest = d ∙ rw sub-zero;
     }

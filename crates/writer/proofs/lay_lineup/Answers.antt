@@ -12,10 +12,10 @@ pub put-place-requires : goal.put-place-requires
 unfolding lineup_fields
 put-place-requires c = ready_front _ _ (bits 10 (length c.args.lineup.now) ∷ []) _ c.requires
 
-pub lay-entries-requires : goal.lay-entries-requires
+pub lay_entries-requires : goal.lay_entries-requires
 unfolding lineup_fields
-lay-entries-requires c = ready_next _ _ _ _ (bits 10 (length c.args.lineup.now) ∷ []) _ c.requires c.put-place.ensures
+lay_entries-requires c = ready_next _ _ _ _ (bits 10 (length c.args.lineup.now) ∷ []) _ c.requires c.put-place.ensures
 
 pub returns : goal.returns
 unfolding lineup_fields
-returns c = wrote_append _ _ _ _ _ _ _ _ c.put-place.ensures c.lay-entries.ensures
+returns c = wrote_append _ _ _ _ _ _ _ _ c.put-place.ensures c.lay_entries.ensures

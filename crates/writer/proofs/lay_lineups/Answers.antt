@@ -13,18 +13,18 @@ overflow-add-next c =
     let e = lineup_ends c.args.lengths.now c.args.entries.now c.loop-length.length-index c.loop-length.start c.loop-length-test.true c.loop-length.invariant.2 in
     record { fits = omega (arith, e, c.requires.there) }
 
-pub offset-bounds-entries-start : goal.offset-bounds-entries-start
-offset-bounds-entries-start c =
+pub offset_bounds-entries-start : goal.offset_bounds-entries-start
+offset_bounds-entries-start c =
     let e = lineup_ends c.args.lengths.now c.args.entries.now c.loop-length.length-index c.loop-length.start c.loop-length-test.true c.loop-length.invariant.2 in
     record { fits = omega (arith, e, c.requires.there) }
 
-pub slice-bounds-lay-lineup-end : goal.slice-bounds-lay-lineup-end
-slice-bounds-lay-lineup-end c =
+pub slice_bounds-lay_lineup-end : goal.slice_bounds-lay_lineup-end
+slice_bounds-lay_lineup-end c =
     let e = lineup_ends c.args.lengths.now c.args.entries.now c.loop-length.length-index c.loop-length.start c.loop-length-test.true c.loop-length.invariant.2 in
     le_trans e c.requires.there
 
-pub lay-lineup-end-requires : goal.lay-lineup-end-requires
-lay-lineup-end-requires c =
+pub lay_lineup-end-requires : goal.lay_lineup-end-requires
+lay_lineup-end-requires c =
     let s = c.loop-length.start in
     let n = get_or c.args.lengths.now c.loop-length.length-index 0 in
     let e : s + n - s ≡ n = omega arith in
@@ -39,7 +39,7 @@ loop-length-preserved c =
     let s = c.loop-length.start in
     let v = c.loop-length.invariant in
     let e : s + get_or ns i 0 - s ≡ get_or ns i 0 = omega arith in
-    let w = rw e at c.lay-lineup-end.ensures in (
+    let w = rw e at c.lay_lineup-end.ensures in (
       lineups_wrote ns es i s c.loop-length-test.true v.2 _ _ _ _ _ _ v.0 w,
       ready_next _ _ _ _ (lineup_fields (take (get_or ns i 0) (drop s es))) _ (lineups_ready ns es i s c.loop-length-test.true _ _ v.1) w,
       lineups_start ns es i s c.loop-length-test.true v.2,

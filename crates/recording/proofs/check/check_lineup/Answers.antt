@@ -5,24 +5,24 @@ use Rattle.recording.specs.Ranges.{lineup_tries, try_all}
 use Rattle.recording.proofs.Ranges.{ranged_in, ranged_out}
 use Rattle.recording.proofs.check.check_lineup.Goals as goal
 
-pub returns-in-err-ranged : goal.returns-in-err-ranged
+pub returns-in_err-ranged : goal.returns-in_err-ranged
 unfolding lineup_tries try_all
-returns-in-err-ranged c =
-    let r = err_from_is_err_and c.from-residual.result c.from-residual.ensures.1 in
-    rw (r.1, r.2, ranged_out _ _ _ _ _ c.in-err-ranged.ensures)
+returns-in_err-ranged c =
+    let r = err_from_is_err_and c.from_residual.result c.from_residual.ensures.1 in
+    rw (r.1, r.2, ranged_out _ _ _ _ _ c.in_err-ranged.ensures)
 
-pub returns-in-err-bit : goal.returns-in-err-bit
+pub returns-in_err-bit : goal.returns-in_err-bit
 unfolding lineup_tries try_all
-returns-in-err-bit c =
-    let r = err_from_is_err_and c.from-residual-in-err-bit.result c.from-residual-in-err-bit.ensures.1 in
+returns-in_err-bit c =
+    let r = err_from_is_err_and c.from_residual-in_err-bit.result c.from_residual-in_err-bit.ensures.1 in
     let e : c.args.at.index + c.args.count - c.args.at.index ≡ c.args.count = omega arith in
-    rw (r.1, r.2, ranged_in _ _ _ _ _ c.in-ok-ranged.ensures) (rw (e, c.bits.ensures) at c.in-err-bit.ensures)
+    rw (r.1, r.2, ranged_in _ _ _ _ _ c.in_ok-ranged.ensures) (rw (e, c.bits.ensures) at c.in_err-bit.ensures)
 
 pub returns : goal.returns
 unfolding lineup_tries try_all lineup_fields span
 returns c =
-    let h = c.in-ok-ranged.ensures in
+    let h = c.in_ok-ranged.ensures in
     let e : c.args.at.index + c.args.count - c.args.at.index ≡ c.args.count = omega arith in
-    let k = rw (e, c.bits.ensures) at c.in-ok-bit.ensures in
+    let k = rw (e, c.bits.ensures) at c.in_ok-bit.ensures in
     let n = length-take c.args.count (drop c.args.at.index c.args.entries.now) in
     (rw (ranged_in _ _ _ _ _ h) k.0, omega (arith, k.1), refl, h.2, omega (arith, k.2, n, h.2))

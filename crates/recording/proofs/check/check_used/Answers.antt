@@ -5,35 +5,35 @@ use Rattle.recording.specs.Layout.{span}
 use Rattle.recording.proofs.Checks.{all_used, bits_used, events_outside, header_outside, lineups_outside}
 use Rattle.recording.proofs.check.check_used.Goals as goal
 
-pub returns-in-err-bit : goal.returns-in-err-bit
-returns-in-err-bit c =
-    let r = err_from_is_err_and c.from-residual.result c.from-residual.ensures.1 in
-    rw (r.1, r.2) (header_outside c.args.recording.now _ c.in-err-bit.ensures)
+pub returns-in_err-bit : goal.returns-in_err-bit
+returns-in_err-bit c =
+    let r = err_from_is_err_and c.from_residual.result c.from_residual.ensures.1 in
+    rw (r.1, r.2) (header_outside c.args.recording.now _ c.in_err-bit.ensures)
 
-pub slice-bounds-events-end : goal.slice-bounds-events-end
-slice-bounds-events-end c = c.in-ok-bit.ensures.4
+pub slice_bounds-events-end : goal.slice_bounds-events-end
+slice_bounds-events-end c = c.in_ok-bit.ensures.4
 
-pub check-events-requires : goal.check-events-requires
+pub check_events-requires : goal.check_events-requires
 unfolding span
-check-events-requires c =
-    let h = c.in-ok-bit.ensures in
+check_events-requires c =
+    let h = c.in_ok-bit.ensures in
     let n = length-take (c.args.recording.now.count - 0) c.args.recording.now.events in
     record { stations = h.2; few = omega (arith, n, h.4); countable = omega (arith, h.1) }
 
-pub returns-in-err-bit-2 : goal.returns-in-err-bit-2
-returns-in-err-bit-2 c =
-    let r = err_from_is_err_and c.from-residual-in-err-bit-2.result c.from-residual-in-err-bit-2.ensures.1 in
-    let h = c.in-ok-bit.ensures in
-    rw (r.1, r.2) (events_outside c.args.recording.now h.0 _ (rw (sub-zero, h.1) at c.in-err-bit-2.ensures))
+pub returns-in_err-bit-2 : goal.returns-in_err-bit-2
+returns-in_err-bit-2 c =
+    let r = err_from_is_err_and c.from_residual-in_err-bit-2.result c.from_residual-in_err-bit-2.ensures.1 in
+    let h = c.in_ok-bit.ensures in
+    rw (r.1, r.2) (events_outside c.args.recording.now h.0 _ (rw (sub-zero, h.1) at c.in_err-bit-2.ensures))
 
-pub slice-bounds-lengths-end : goal.slice-bounds-lengths-end
-slice-bounds-lengths-end c = c.in-ok-bit.ensures.3
+pub slice_bounds-lengths-end : goal.slice_bounds-lengths-end
+slice_bounds-lengths-end c = c.in_ok-bit.ensures.3
 
-pub check-lineups-requires : goal.check-lineups-requires
+pub check_lineups-requires : goal.check_lineups-requires
 unfolding span
-check-lineups-requires c =
-    let h = c.in-ok-bit.ensures in
-    let b = c.in-ok-bit-2.ensures in
+check_lineups-requires c =
+    let h = c.in_ok-bit.ensures in
+    let b = c.in_ok-bit-2.ensures in
     let n = length-take (c.args.recording.now.count - 0) c.args.recording.now.events in
     let m = length-take (c.args.recording.now.stations - 0) c.args.recording.now.lengths in
     record { few = omega (arith, m, h.3); countable = omega (arith, h.1, b.2, n, h.4) }
@@ -41,10 +41,10 @@ check-lineups-requires c =
 pub returns : goal.returns
 unfolding span
 returns c =
-    let h = c.in-ok-bit.ensures in
+    let h = c.in_ok-bit.ensures in
     let n = length-take c.args.recording.now.count c.args.recording.now.events in
-    let b = rw (sub-zero, h.1) at c.in-ok-bit-2.ensures in
-    MatchResult-weaker c.check-lineups.result (rw sub-zero at c.check-lineups.ensures)
+    let b = rw (sub-zero, h.1) at c.in_ok-bit-2.ensures in
+    MatchResult-weaker c.check_lineups.result (rw sub-zero at c.check_lineups.ensures)
     (λ end l. (
       all_used c.args.recording.now h.0 b.0 _ b.1 l.0,
       l.1 ∙ sym (bits_used c.args.recording.now h.0 b.0 _ b.1),

@@ -5,18 +5,18 @@ use Rattle.recording.specs.Ranges.{try_all}
 use Rattle.recording.proofs.Ranges.{ranged_in, ranged_out}
 use Rattle.recording.proofs.check.check_zeros.Goals as goal
 
-pub returns-in-err-ranged : goal.returns-in-err-ranged
+pub returns-in_err-ranged : goal.returns-in_err-ranged
 unfolding try_all
-returns-in-err-ranged c =
-    let r = err_from_is_err_and c.from-residual.result c.from-residual.ensures.1 in
+returns-in_err-ranged c =
+    let r = err_from_is_err_and c.from_residual.result c.from_residual.ensures.1 in
     let d = drop_more c.args.numbers.now c.loop-number.number-index 0 c.loop-number-test.true in
-    rw (r.1, r.2) (c.loop-number.invariant ∙ rw (d, ranged_out _ _ _ _ _ c.in-err-ranged.ensures))
+    rw (r.1, r.2) (c.loop-number.invariant ∙ rw (d, ranged_out _ _ _ _ _ c.in_err-ranged.ensures))
 
 pub loop-number-preserved : goal.loop-number-preserved
 unfolding try_all
 loop-number-preserved c =
     let d = drop_more c.args.numbers.now c.loop-number.number-index 0 c.loop-number-test.true in
-    c.loop-number.invariant ∙ rw (d, ranged_in _ _ _ _ _ c.in-ok-ranged.ensures)
+    c.loop-number.invariant ∙ rw (d, ranged_in _ _ _ _ _ c.in_ok-ranged.ensures)
 
 pub returns : goal.returns
 unfolding try_all

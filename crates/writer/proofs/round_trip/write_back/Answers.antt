@@ -8,7 +8,7 @@ returns c =
     let h = c.requires in
     let s = file_size_lem c.args.file.now c.args.recording.now h.file in
     MatchResult-weaker c.write.result c.write.ensures.result
-    (λ n w. (w.size ∙ sym s, sym (w.only c.args.file.now (λ i. (c.type-inv.file i).fits) h.file), w.rest))
+    (λ n w. (w.size ∙ sym s, sym (w.only c.args.file.now (λ i. (c.type_inv.file i).fits) h.file), w.rest))
     (λ e u. elim u.0 [
       | inl o ↦ absurd (o.beyond h.limits)
       | inr l ↦ (rw s l.more, rw s l.tells, u.1)

@@ -3,8 +3,8 @@ use Rattle.bank.specs.Orders.{proper}
 use Rattle.bank.proofs.Orders.{proper_without}
 use Rattle.kinds.proofs.lane.Lane.remove.Goals as goal
 
-pub invariant-of-self : goal.invariant-of-self
-invariant-of-self c =
+pub invariant_of_self : goal.invariant_of_self
+invariant_of_self c =
     let s = c.args.self.now in
-    let fair = ap proper c.keep-others-len.ensures.front ∙ proper_without _ c.args.order s.fair in
+    let fair = ap proper c.keep_others-len.ensures.front ∙ proper_without _ c.args.order s.fair in
     (omega arith, (omega arith, (fair, tt)))

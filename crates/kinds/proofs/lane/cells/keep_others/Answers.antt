@@ -11,6 +11,6 @@ loop-i-preserved c =
     let room : c.loop-i.i < length c.loop-i.cells = omega arith in
     let read = get_or_default c.loop-i.cells c.loop-i.i 0 _ room in
     elim c.if-cells-i.branch [
-      | then-cells-i w ↦ rw (w.cells-is ∙ w.copy-cell.ensures, w.next-is) (FiltersInPlace-more_set k room (not_from_false _ (ne_eqb _ _ w.if-cells-i.true)) read)
+      | then-cells-i w ↦ rw (w.cells-is ∙ w.copy_cell.ensures, w.next-is) (FiltersInPlace-more_set k room (not_from_false _ (ne_eqb _ _ w.if-cells-i.true)) read)
       | else-cells-i w ↦ rw (w.cells-is, w.next-is) (FiltersInPlace-more_no k room (not_from_true _ (eq-eqb _ _ w.if-cells-i.false)) read)
     ]

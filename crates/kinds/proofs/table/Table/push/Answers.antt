@@ -3,8 +3,8 @@ use Rattle.bank.specs.Orders.{holds}
 use Rattle.kinds.specs.Tables.{held_at, held_edit, length_held}
 use Rattle.kinds.proofs.table.Table.push.Goals as goal
 
-pub offset-bounds-lanes-lane : goal.offset-bounds-lanes-lane
-offset-bounds-lanes-lane c = omega (arith, length_held c.args.self.now)
+pub offset_bounds-lanes-lane : goal.offset_bounds-lanes-lane
+offset_bounds-lanes-lane c = omega (arith, length_held c.args.self.now)
 
 pub listed : goal.listed
 listed c = omega (arith, length_held c.args.self.now)

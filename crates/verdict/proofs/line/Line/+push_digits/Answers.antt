@@ -4,8 +4,8 @@ use Rattle.verdict.proofs.Steps.{last_alone, length_more}
 use Rattle.verdict.proofs.line.Line.+push_digits.Goals as goal
 use Rattle.verdict.proofs.line.Line.+push_digits.Goals.{then-n-ge10, else-n-ge10}
 
-pub push-digits-requires : goal.push-digits-requires
-push-digits-requires t c = search (rules, length_more)
+pub push_digits-requires : goal.push_digits-requires
+push_digits-requires t c = search (rules, length_more)
 
 pub push-requires : goal.push-requires
 push-requires t c =
