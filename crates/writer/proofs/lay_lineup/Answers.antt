@@ -4,9 +4,9 @@ use Rattle.recording.specs.Record.{All}
 use Rattle.writer.proofs.Lays.{ready_front, ready_next, wrote_append}
 use Rattle.writer.proofs.lay_lineup.Goals as goal
 
-pub overflow-cast-lineup : goal.overflow-cast-lineup
+pub overflow_cast-lineup : goal.overflow_cast-lineup
 unfolding lineup_fields All
-overflow-cast-lineup c = record { fits = omega (arith, c.requires.fits.0) }
+overflow_cast-lineup c = record { fits = omega (arith, c.requires.fits.0) }
 
 pub put-place-requires : goal.put-place-requires
 unfolding lineup_fields

@@ -8,8 +8,8 @@ pub loop-length-init : goal.loop-length-init
 unfolding parts total
 loop-length-init c = (wrote_none c.args.bytes.now c.args.place, c.requires.ready, refl)
 
-pub overflow-add-next : goal.overflow-add-next
-overflow-add-next c =
+pub overflow_add-next : goal.overflow_add-next
+overflow_add-next c =
     let e = lineup_ends c.args.lengths.now c.args.entries.now c.loop-length.length-index c.loop-length.start c.loop-length-test.true c.loop-length.invariant.2 in
     record { fits = omega (arith, e, c.requires.there) }
 

@@ -5,8 +5,8 @@ use Rattle.bank.specs.Orders.{proper}
 use Rattle.bank.proofs.Orders.{proper_push}
 use Rattle.kinds.proofs.lane.Lane.push.Goals as goal
 
-pub invariant_of_self : goal.invariant_of_self
-invariant_of_self c =
+pub invariant_of-self : goal.invariant_of-self
+invariant_of-self c =
     let s = c.args.self.now in
     let room : s.len < length s.cells = omega (arith, length-take-le s.len s.cells (omega arith)) in
     let within : s.len + 1 ≤ max_depth = omega arith in

@@ -3,8 +3,8 @@ use Rattle.bank.specs.Orders.{proper}
 use Rattle.bank.proofs.Orders.{proper_without}
 use Rattle.kinds.proofs.lane.Lane.remove.Goals as goal
 
-pub invariant_of_self : goal.invariant_of_self
-invariant_of_self c =
+pub invariant_of-self : goal.invariant_of-self
+invariant_of-self c =
     let s = c.args.self.now in
     let fair = ap proper c.keep_others-len.ensures.front ∙ proper_without _ c.args.order s.fair in
     (omega arith, (omega arith, (fair, tt)))

@@ -3,8 +3,8 @@ use Rattle.std.proofs.lemmas.List.{places}
 use Rattle.std.proofs.lemmas.Slice.{overwrites}
 use Rattle.verdict.proofs.line.Line.push.Goals as goal
 
-pub invariant_of_self : goal.invariant_of_self
-invariant_of_self c = search (rules, places)
+pub invariant_of-self : goal.invariant_of-self
+invariant_of-self c = search (rules, places)
 
 pub returns : goal.returns
 returns c = search (rules, overwrites)
