@@ -71,7 +71,7 @@ fn writes_the_sample(rt: HostRuntime) -> Result<(), Fail> {
         Ok(size) => assert_eq!(rt; size, 13),
         Err(_) => return Err(Fail::new("it is refused")),
     }
-    assert!(rt; &buffer[0..13] == &SAMPLE);
+    assert!(rt; &buffer[0..13] == SAMPLE.as_slice());
     assert_eq!(rt; buffer[13], 0xFF);
     assert_eq!(rt; buffer[14], 0xFF);
     Ok(())

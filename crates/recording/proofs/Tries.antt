@@ -2,7 +2,6 @@
 use Rattle.std.proofs.Common.{◌≡◌, ℕ, ◌+◌, ◌<◌, ◌≤◌, List, [], ◌∷◌, ◌++◌, length, get_or, take, drop, Ok, Err, Result, sym, refl, ap, ◌∙◌, arith, lit≤, drop_of_length-le, drop-drop}
 use Rattle.std.specs.List.{flat_map}
 use Rattle.std.proofs.lemmas.List.{drop_more}
-use Rattle.std.proofs.lemmas.Bool.Decides.{nat_tests}
 use Rattle.bits.specs.declared.told.Told.{Told}
 use Rattle.recording.specs.Layout.{Field, lineup_fields, span}
 use Rattle.recording.specs.Ranges.{FirstOut, InRange, Tried, and_then, lineup_tries, lineups_tries, many_tries, ranged, try_all}
