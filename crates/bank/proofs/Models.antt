@@ -1,11 +1,11 @@
 -- What a bank keeps, whatever is put in or taken out.
-use Rattle.std.proofs.Common.{◌≡◌, ℕ, ◌<◌, ◌≤◌, Bool, true, false, ◌&&◌, List, [], ◌∷◌, ◌++◌, length, set, replicate, Some, None, Option, sym, refl, ap, ◌∙◌, ⊎_elim, arith}
+use Rattle.std.proofs.Common.{◌≡◌, ℕ, ◌<◌, ◌≤◌, true, false, List, [], ◌∷◌, ◌++◌, length, set, replicate, Some, None, Option, refl, ap, ◌∙◌, ⊎_elim, arith}
 use Rattle.std.specs.List.{AllByRecursion as All}
 use Rattle.std.proofs.ByRecursion.{All-from_get_or, All-get_or, All-set}
 use Rattle.std.proofs.lemmas.List.{get_or_past, get_or-replicate, get_or-set_same, length_push, length-replicate, length-set}
 use Rattle.std.proofs.lemmas.Bool.{and_from, and_parts, cases_lt, le-leb, leb-true, lt-ltb, ltb-true, not_from_false, not-true}
 use Rattle.recording.specs.Record.{max_order}
-use Rattle.bank.specs.Orders.{holds, without, proper}
+use Rattle.bank.specs.Orders.{holds, proper}
 use Rattle.bank.specs.Model.{Model, Sound, after_offer, after_out, after_put, can_put, cleared, holding, lane_of, lanes_of}
 use Rattle.bank.proofs.Orders.{holds_push, length_without_le, proper_push, proper_without}
 

@@ -1,10 +1,10 @@
 -- The two ends of a list of held orders.
-use Rattle.std.proofs.Common.{◌≡◌, ℕ, zero, suc, ◌-◌, ◌<◌, ◌≤◌, true, ◌&&◌, List, [], ◌∷◌, length, get_or, Some, None, Option, sym, refl, ap, ◌∙◌, subst, arith, Bor, MatchOption}
+use Rattle.std.proofs.Common.{◌≡◌, ℕ, zero, suc, ◌-◌, ◌<◌, ◌≤◌, true, List, [], ◌∷◌, length, get_or, Some, None, Option, sym, refl, ap, ◌∙◌, arith, Bor, MatchOption}
 use Rattle.std.specs.Option.{option_map}
 use Rattle.std.specs.List.{HoldsAt}
 use Rattle.std.proofs.lemmas.Bool.{and_from, eq-eqb, or_left, or_right}
 use Rattle.bank.specs.Orders.{holds}
-use Rattle.bank.specs.Rules.{Rule, is_that, newest_of, oldest_of, only_newest, only_oldest}
+use Rattle.bank.specs.Rules.{is_that, newest_of, oldest_of, only_newest, only_oldest}
 use Rattle.kinds.specs.Picks.{Picks}
 
 -- what a read at place i of a list gives, where it has any

@@ -1,4 +1,3 @@
-pub mod Faults
 pub mod Picks
 pub mod Lanes
 pub mod Arrays

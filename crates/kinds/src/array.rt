@@ -1,9 +1,6 @@
 ghost use Rattle.std.specs.Prelude.{◌≡◌, ◌<◌, ◌≤◌, ◌⊎◌, MatchResult};
 ghost use Rattle.bank.specs.Model.{empty_bank, max_depth, max_lanes};
-ghost use Rattle.bits.specs.Told.{told};
-ghost use Rattle.bits.specs.declared.told.Place.TheVariants.{AtStation};
 ghost use Rattle.kinds.specs.Arrays.{array_model};
-ghost use Rattle.kinds.specs.Faults.{bank_told};
 ghost use Rattle.kinds.specs.Tables.{array_sound};
 
 use crate::fault::BankFault;
@@ -78,8 +75,7 @@ impl<K: Kind> ArrayBank<K> {
         ensures { MatchResult result
             (λ _. (1 ≤ lanes) × (lanes ≤ max_lanes)
             × (array_model K.Kind.rule self.new ≡ empty_bank lanes max_depth (K.Kind.rule self.old.kind)))
-            (λ e. ((lanes < 1) ⊎ (max_lanes < lanes)) × (bank_told e ≡ told 22 (AtStation 0))
-            × (self.new ≡ self.old)) }
+            (λ _. ((lanes < 1) ⊎ (max_lanes < lanes)) × (self.new ≡ self.old)) }
     {
         if lanes < 1 || lanes > limits::MAX_LANES {
             return Err(BankFault::Lanes);

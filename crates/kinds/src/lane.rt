@@ -1,6 +1,6 @@
 ghost use Rattle.std.specs.Prelude.{◌≡◌, ◌≤◌, true, length, take};
 ghost use Rattle.bank.specs.Model.{max_depth};
-ghost use Rattle.bank.specs.Orders.{proper as allProper};
+ghost use Rattle.bank.specs.Orders.{proper as all_proper};
 
 use bank::limits::MAX_DEPTH;
 
@@ -11,7 +11,7 @@ pub(crate) struct Lane {
     len: usize,
     ghost long: { length cells ≡ max_depth },
     ghost within: { len ≤ max_depth },
-    ghost fair: { allProper (take len cells) ≡ true },
+    ghost fair: { all_proper (take len cells) ≡ true },
 }
 
 // The methods stand apart: their contracts cite a definition that names `Lane`, which this file cannot import.

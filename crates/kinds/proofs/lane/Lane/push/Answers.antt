@@ -11,7 +11,7 @@ invariant_of-self c =
     let room : s.len < length s.cells = omega (arith, length-take-le s.len s.cells (omega arith)) in
     let within : s.len + 1 ≤ max_depth = omega arith in
     let fair = ap proper (take_more_set s.cells s.len c.args.order room) ∙ proper_push _ _ s.fair c.requires.fresh c.requires.order in
-    (length-set _ _ _ ∙ s.long, (within, (fair, tt)))
+    record { long = length-set _ _ _ ∙ s.long; within = within; fair = fair }
 
 pub returns : goal.returns
 returns c =

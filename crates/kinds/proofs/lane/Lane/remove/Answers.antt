@@ -7,4 +7,4 @@ pub invariant_of-self : goal.invariant_of-self
 invariant_of-self c =
     let s = c.args.self.now in
     let fair = ap proper c.keep_others-len.ensures.front ∙ proper_without _ c.args.order s.fair in
-    (omega arith, (omega arith, (fair, tt)))
+    record { long = omega arith; within = omega arith; fair = fair }
