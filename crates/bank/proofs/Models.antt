@@ -1,6 +1,6 @@
 -- What a bank keeps, whatever is put in or taken out.
 use Rattle.std.proofs.Common.{◌≡◌, ℕ, ◌<◌, ◌≤◌, true, false, List, [], ◌∷◌, ◌++◌, length, set, replicate, Some, None, Option, refl, ap, ◌∙◌, ⊎_elim, arith}
-use Rattle.std.specs.List.{AllByRecursion as All}
+use Rattle.std.specs.List.{AllByRecursion}
 use Rattle.std.proofs.ByRecursion.{All-from_get_or, All-get_or, All-set}
 use Rattle.std.proofs.lemmas.List.{get_or_past, get_or-replicate, get_or-set_same, length_push, length-replicate, length-set}
 use Rattle.std.proofs.lemmas.Bool.{and_from, and_parts, cases_lt, le-leb, leb-true, lt-ltb, ltb-true, not_from_false, not-true}
@@ -10,7 +10,7 @@ use Rattle.bank.specs.Model.{Model, Sound, after_offer, after_out, after_put, ca
 use Rattle.bank.proofs.Orders.{holds_push, length_without_le, proper_push, proper_without}
 
 -- what holds of every lane, and of an empty one, holds of any, there or not
-lane_all : (P : List ℕ → Type 0) → P [] → (h : List (List ℕ)) (l : ℕ) → All P h → P (lane_of h l)
+lane_all : (P : List ℕ → Type 0) → P [] → (h : List (List ℕ)) (l : ℕ) → AllByRecursion P h → P (lane_of h l)
 lane_all P none h l all = ⊎_elim (λ there. All-get_or P h l [] there all) (λ past. rw (get_or_past h l [] past) none) (cases_lt l (length h))
 
 pub lane_proper : {m : Model} → Sound m → (l : ℕ) → proper (lane_of m.held l) ≡ true
@@ -80,7 +80,7 @@ sound_offer s l (Some x) = sound_out s l x
 pub sound_clear : {m : Model} → Sound m → Sound (cleared m)
 sound_clear {m} s =
     let n = length-replicate {A = List ℕ} (lanes_of m) [] in
-    let each : (P : List ℕ → Type 0) → P [] → All P (replicate (lanes_of m) []) =
+    let each : (P : List ℕ → Type 0) → P [] → AllByRecursion P (replicate (lanes_of m) []) =
     λ P none. All-from_get_or P _ [] (λ i h. rw (get_or-replicate {A = List ℕ} (lanes_of m) i [] [] (omega (arith, n, h))) none) in
     record {
       some = omega (arith, n, s.some);

@@ -2,7 +2,7 @@
 use Rattle.std.specs.Prelude.{◌≡◌, ℕ, ◌+◌, ◌<◌, ◌≤◌, true, List, [], ◌∷◌, ◌++◌, map, length, take, set, replicate, slice_index_or, slice_set}
 use Rattle.std.proofs.Common.{sym, ap, ◌∙◌, arith, lit≤}
 use Rattle.std.proofs.Math.Seq.{take-set-lt}
-use Rattle.std.specs.List.{AllByRecursion as All}
+use Rattle.std.specs.List.{AllByRecursion}
 use Rattle.std.proofs.ByRecursion.{All-map, All-take}
 use Rattle.std.proofs.lemmas.List.{get_or-map, get_or-take, length-map, length-take-le, map-append, map-set, replicate_more, take-append-le, take_more_set}
 use Rattle.bank.specs.Model.{Sound, lane_of, max_depth}
@@ -50,12 +50,12 @@ emptied_front n front rest long so =
     ∙ take-append-le n (map orders_of front) (map orders_of rest) (omega (arith, length-map front orders_of))
     ∙ so
 
-all_always : {X : Type 0} (P : X → Type 0) → ((x : X) → P x) → (xs : List X) → All P xs
+all_always : {X : Type 0} (P : X → Type 0) → ((x : X) → P x) → (xs : List X) → AllByRecursion P xs
 all_always P f [] = tt
 all_always P f (x ∷ xs) = (f x, all_always P f xs)
 
 -- what holds of every lane's orders holds of what a table holds
-held_all : (P : List ℕ → Type 0) → ((lane : Lane) → P (orders_of lane)) → (t : Table) → All P (held_in t)
+held_all : (P : List ℕ → Type 0) → ((lane : Lane) → P (orders_of lane)) → (t : Table) → AllByRecursion P (held_in t)
 held_all P f t = All-take P t.count _ (All-map P orders_of t.lanes (all_always (λ lane. P (orders_of lane)) f t.lanes))
 
 -- so a bank of arrays is sound, whatever its kind
