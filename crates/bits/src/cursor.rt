@@ -52,13 +52,11 @@ impl<'a> BitCursor<'a> {
             × (reach self.old.bytes.now < self.old.place + bits_of width)) }
     {
         let bits = width.bits();
-        match field_end(self.bytes, self.place, bits) {
-            Some(end) => {
-                let value = cut(self.bytes, self.place, bits);
-                self.place = end;
-                Ok(value)
-            }
-            None => Err(BitFault::Ends { bit: self.place }),
-        }
+        let end = field_end(self.bytes, self.place, bits).ok_or(BitFault::Ends {
+            bit: self.place,
+        })?;
+        let value = cut(self.bytes, self.place, bits);
+        self.place = end;
+        Ok(value)
     }
 }

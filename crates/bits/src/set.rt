@@ -21,11 +21,7 @@ pub fn set(bytes: &mut [u8], place: usize, width: Width, value: u16) -> Result<u
         × (bytes.new ≡ bytes.old)) }
 {
     let bits = width.bits();
-    match field_end(bytes, place, bits) {
-        Some(end) => {
-            paste(bytes, place, bits, value);
-            Ok(end)
-        }
-        None => Err(BitFault::Ends { bit: place }),
-    }
+    let end = field_end(bytes, place, bits).ok_or(BitFault::Ends { bit: place })?;
+    paste(bytes, place, bits, value);
+    Ok(end)
 }

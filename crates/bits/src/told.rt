@@ -2,7 +2,7 @@ ghost use Rattle.bits.specs.Told.{told};
 ghost use Rattle.std.specs.Prelude.{◌≡◌};
 
 /// Where a refusal points.
-#[derive(Clone, Copy)]
+#[derive(Clone, Copy, Debug, PartialEq, Eq, Hash)]
 pub enum Place {
     /// A bit of a file, counted from 0.
     AtBit(usize),
@@ -15,7 +15,7 @@ pub enum Place {
 }
 
 /// What a refusal tells: its number and its place.
-#[derive(Clone, Copy)]
+#[derive(Clone, Copy, Debug, PartialEq, Eq, Hash)]
 pub struct Told {
     pub number: usize,
     pub place: Place,

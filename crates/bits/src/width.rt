@@ -2,15 +2,15 @@ ghost use Rattle.bits.specs.Widths.{bits_of};
 ghost use Rattle.std.specs.Prelude.{◌≡◌};
 
 /// How many bits a field has: the widths that occur in a file, and the single filling bit.
-#[derive(Clone, Copy)]
+#[derive(Clone, Copy, Debug, PartialEq, Eq, Hash)]
 pub enum Width {
-    One,
-    Three,
-    Four,
-    Nine,
-    Ten,
-    Eleven,
-    Twelve,
+    One = 1,
+    Three = 3,
+    Four = 4,
+    Nine = 9,
+    Ten = 10,
+    Eleven = 11,
+    Twelve = 12,
 }
 
 impl Width {
@@ -18,14 +18,6 @@ impl Width {
     pub fn bits(self) -> usize
         ensures { result ≡ bits_of self }
     {
-        match self {
-            Width::One => 1,
-            Width::Three => 3,
-            Width::Four => 4,
-            Width::Nine => 9,
-            Width::Ten => 10,
-            Width::Eleven => 11,
-            Width::Twelve => 12,
-        }
+        self as usize
     }
 }

@@ -22,11 +22,7 @@ pub(crate) fn shift(place: usize, bits: usize) -> usize
 fn byte(bytes: &[u8], index: usize) -> u32
     ensures { result ≡ slice_index bytes.now index }
 {
-    if index < bytes.len() {
-        u32::from(bytes[index])
-    } else {
-        0
-    }
+    bytes.get(index).map_or(0, |&byte| u32::from(byte))
 }
 
 /// The three bytes from an index on as one number, with zeros past the end.
@@ -51,10 +47,7 @@ pub(crate) fn field_end(bytes: &[u8], place: usize, bits: usize) -> Option<usize
         (reach bytes.now < place + bits)
         (λ end. (end ≡ place + bits) × (place + bits ≤ reach bytes.now)) }
 {
-    let end = place.checked_add(bits)?;
-    if end.div_ceil(8) <= bytes.len() {
-        Some(end)
-    } else {
-        None
-    }
+    place
+        .checked_add(bits)
+        .filter(|end| end.div_ceil(8) <= bytes.len())
 }
