@@ -51,11 +51,10 @@ impl<'a> BitCursor<'a> {
             × (self.new.place ≡ self.old.place)
             × (reach self.old.bytes.now < self.old.place + bits_of width)) }
     {
-        let bits = width.bits();
-        let end = field_end(self.bytes, self.place, bits).ok_or(BitFault::Ends {
+        let end = field_end(self.bytes, self.place, width).ok_or(BitFault::Ends {
             bit: self.place,
         })?;
-        let value = cut(self.bytes, self.place, bits);
+        let value = cut(self.bytes, self.place, width);
         self.place = end;
         Ok(value)
     }

@@ -1,7 +1,9 @@
 //! Writing a field into its window of three bytes.
 ghost use Rattle.std.specs.Prelude.{◌≡◌, ◌+◌, ◌-◌, ◌*◌, ◌/◌, ◌%◌, ◌^◌, ◌<◌, ◌≤◌, length, bit_and, slice_set};
 ghost use Rattle.bits.specs.Bits.{Overwritten};
+ghost use Rattle.bits.specs.Widths.{bits_of};
 
+use crate::width::Width;
 use crate::window::{mask, shift, window};
 
 /// Writes the lowest 8 bits of a number at an index, or nothing past the end.
@@ -31,14 +33,13 @@ fn cleared(window: u32, hole: u32) -> u32
     window & !hole
 }
 
-/// Sets so many bits from a place on to the lowest bits of a number; all other bits stay.
-pub(crate) fn paste(bytes: &mut [u8], place: usize, bits: usize, value: u16)
-    requires narrow { bits ≤ 12 }
-    requires within { place + bits ≤ 8 * length bytes.old }
-    ensures { Overwritten bytes.old bytes.new place bits (value % 2 ^ bits) }
+/// Sets the field at a place to the lowest bits of a number; all other bits stay.
+pub(crate) fn paste(bytes: &mut [u8], place: usize, width: Width, value: u16)
+    requires { place + bits_of width ≤ 8 * length bytes.old }
+    ensures { Overwritten bytes.old bytes.new place (bits_of width) (value % 2 ^ bits_of width) }
 {
-    let shift = shift(place, bits);
-    let ones = mask(bits);
+    let shift = shift(place, width);
+    let ones = mask(width);
     let around = cleared(window(bytes, place / 8), ones << shift);
     let field = (u32::from(value) & ones) << shift;
     put_window(bytes, place / 8, around | field);

@@ -20,8 +20,7 @@ pub fn set(bytes: &mut [u8], place: usize, width: Width, value: u16) -> Result<u
         × (reach bytes.old < place + bits_of width)
         × (bytes.new ≡ bytes.old)) }
 {
-    let bits = width.bits();
-    let end = field_end(bytes, place, bits).ok_or(BitFault::Ends { bit: place })?;
-    paste(bytes, place, bits, value);
+    let end = field_end(bytes, place, width).ok_or(BitFault::Ends { bit: place })?;
+    paste(bytes, place, width, value);
     Ok(end)
 }

@@ -1,5 +1,5 @@
 ghost use Rattle.bits.specs.Widths.{bits_of};
-ghost use Rattle.std.specs.Prelude.{◌≡◌};
+ghost use Rattle.std.specs.Prelude.{◌≡◌, ◌≤◌};
 
 /// How many bits a field has: the widths that occur in a file, and the single filling bit.
 #[derive(Clone, Copy, Debug, PartialEq, Eq, Hash)]
@@ -16,7 +16,8 @@ pub enum Width {
 impl Width {
     /// The width as a number.
     pub fn bits(self) -> usize
-        ensures { result ≡ bits_of self }
+        ensures value { result ≡ bits_of self }
+        ensures narrow { result ≤ 12 }
     {
         self as usize
     }

@@ -1,21 +1,22 @@
 //! A window of three bytes: a field of at most 12 bits always lies within one.
 ghost use Rattle.std.specs.Prelude.{◌≡◌, ◌+◌, ◌-◌, ◌*◌, ◌%◌, ◌^◌, ◌<◌, ◌≤◌, MatchOption, slice_index};
 ghost use Rattle.bits.specs.Bits.{reach, spelled};
+ghost use Rattle.bits.specs.Widths.{bits_of};
 
-/// The mask of so many bits: two to that power, less one.
-pub(crate) fn mask(bits: usize) -> u32
-    requires { bits ≤ 12 }
-    ensures { result ≡ 2 ^ bits - 1 }
+use crate::width::Width;
+
+/// The mask of a field: two to the power of its width, less one.
+pub(crate) fn mask(width: Width) -> u32
+    ensures { result ≡ 2 ^ bits_of width - 1 }
 {
-    (1 << bits) - 1
+    (1 << width.bits()) - 1
 }
 
-/// How many bits of its window stand after the bits at a place.
-pub(crate) fn shift(place: usize, bits: usize) -> usize
-    requires { bits ≤ 12 }
-    ensures { result ≡ 24 - place % 8 - bits }
+/// How many bits of its window stand after the field at a place.
+pub(crate) fn shift(place: usize, width: Width) -> usize
+    ensures { result ≡ 24 - place % 8 - bits_of width }
 {
-    24 - place % 8 - bits
+    24 - place % 8 - width.bits()
 }
 
 /// The byte at an index, or 0 past the end.
@@ -33,21 +34,20 @@ pub(crate) fn window(bytes: &[u8], first: usize) -> u32
     byte(bytes, first) << 16 | byte(bytes, first + 1) << 8 | byte(bytes, first + 2)
 }
 
-/// The number that so many bits from a place on spell.
-pub(crate) fn cut(bytes: &[u8], place: usize, bits: usize) -> u16
-    requires { bits ≤ 12 }
-    ensures { result ≡ spelled bytes.now place bits }
+/// The number that the field at a place spells.
+pub(crate) fn cut(bytes: &[u8], place: usize, width: Width) -> u16
+    ensures { result ≡ spelled bytes.now place (bits_of width) }
 {
-    (window(bytes, place / 8) >> shift(place, bits) & mask(bits)) as u16
+    (window(bytes, place / 8) >> shift(place, width) & mask(width)) as u16
 }
 
-/// The bit after so many bits from a place on, or nothing where the bytes end before, or where 64 bits cannot count so far.
-pub(crate) fn field_end(bytes: &[u8], place: usize, bits: usize) -> Option<usize>
+/// The bit after the field at a place, or nothing where the bytes end before, or where 64 bits cannot count so far.
+pub(crate) fn field_end(bytes: &[u8], place: usize, width: Width) -> Option<usize>
     ensures { MatchOption result
-        (reach bytes.now < place + bits)
-        (λ end. (end ≡ place + bits) × (place + bits ≤ reach bytes.now)) }
+        (reach bytes.now < place + bits_of width)
+        (λ end. (end ≡ place + bits_of width) × (place + bits_of width ≤ reach bytes.now)) }
 {
     place
-        .checked_add(bits)
+        .checked_add(width.bits())
         .filter(|end| end.div_ceil(8) <= bytes.len())
 }
