@@ -1,6 +1,6 @@
 -- A record passes its ranges exactly when it is within the limits.
 use Rattle.std.proofs.Common.{◌≡◌, ℕ, zero, suc, ◌+◌, ◌-◌, ◌≤◌, Bool, true, false, List, [], ◌∷◌, ◌++◌, length, take, drop, replicate, Ok, Err, sym, refl, ap, ◌∙◌, arith, take-add}
-use Rattle.std.specs.List.{flat_map}
+use Rattle.std.specs.List.{AllByRecursion, flat_map}
 use Rattle.std.proofs.lemmas.List.{map-append}
 use Rattle.std.proofs.lemmas.Bool.{both_ways}
 use Rattle.bits.specs.declared.told.Told.{Told}
@@ -10,7 +10,7 @@ use Rattle.recording.specs.declared.record.EventKind.TheVariants.{PostCalled, Dr
 use Rattle.recording.specs.declared.record.Recording.{Recording}
 use Rattle.recording.specs.Layout.{entry_fields, event_fields, header_fields, lineup_fields, record_fields, span}
 use Rattle.recording.specs.Ranges.{InRange, Outside, Tried, between, entry_tries, event_numbers, event_tries, header_tries, lineup_tries, lineups_tries, many_tries, record_tries, tried, try_all, unused, used_tries, zero_tries}
-use Rattle.recording.specs.Record.{All, EventOk, FieldsOk, Limits, all_entries, carries, lineups_of, max_call, max_entries, max_events, max_stations, no_event, number_of, total, used_events, used_lengths}
+use Rattle.recording.specs.Record.{EventOk, FieldsOk, Limits, all_entries, carries, lineups_of, max_call, max_entries, max_events, max_stations, no_event, number_of, total, used_events, used_lengths}
 use Rattle.recording.proofs.Layouts.{kind_most, span_append}
 use Rattle.recording.proofs.Lineups.{all_append, all_split, most_entries}
 use Rattle.recording.proofs.Padded.{padded_back, padded_rest}
@@ -19,8 +19,8 @@ use Rattle.recording.proofs.Tries.{all_inside, first_out, inside_all, try_past, 
 
 -- ---- events
 
-event_by : (st p : ℕ) (e : Event) (b : Bool) → carries e.kind ≡ b → 1 ≤ st → All InRange (event_tries st p e) → EventOk st e
-unfolding event_tries event_fields All
+event_by : (st p : ℕ) (e : Event) (b : Bool) → carries e.kind ≡ b → 1 ≤ st → AllByRecursion InRange (event_tries st p e) → EventOk st e
+unfolding event_tries event_fields
 event_by st p e true y some h =
     let k = rw y at h in
     let s = k.1.0.1 in
@@ -31,11 +31,11 @@ event_by st p e false y some h =
     let o = k.1.1.0.1 in
     record { station = omega arith; order = omega arith; uncarried = λ f. omega arith }
 
-event_inside : (st p : ℕ) (e : Event) → 1 ≤ st → All InRange (event_tries st p e) → EventOk st e
+event_inside : (st p : ℕ) (e : Event) → 1 ≤ st → AllByRecursion InRange (event_tries st p e) → EventOk st e
 event_inside st p e some h = event_by st p e (carries e.kind) refl some h
 
-tried_by : (st p : ℕ) (e : Event) (b : Bool) → carries e.kind ≡ b → EventOk st e → All InRange (event_tries st p e)
-unfolding event_tries event_fields All
+tried_by : (st p : ℕ) (e : Event) (b : Bool) → carries e.kind ≡ b → EventOk st e → AllByRecursion InRange (event_tries st p e)
+unfolding event_tries event_fields
 tried_by st p e true y o =
     let k = kind_most e.kind in
     let s = o.station in
@@ -46,43 +46,43 @@ tried_by st p e false y o =
     let z = o.uncarried y in
     rw y ((omega arith, omega arith), ((omega arith, omega arith), ((omega arith, omega arith), tt)))
 
-inside_event : (st p : ℕ) (e : Event) → EventOk st e → All InRange (event_tries st p e)
+inside_event : (st p : ℕ) (e : Event) → EventOk st e → AllByRecursion InRange (event_tries st p e)
 inside_event st p e o = tried_by st p e (carries e.kind) refl o
 
-events_inside : (st p : ℕ) (es : List Event) → 1 ≤ st → All InRange (many_tries (event_tries st) event_fields p es) → All (EventOk st) es
-unfolding many_tries All
+events_inside : (st p : ℕ) (es : List Event) → 1 ≤ st → AllByRecursion InRange (many_tries (event_tries st) event_fields p es) → AllByRecursion (EventOk st) es
+unfolding many_tries
 events_inside st p [] some h = tt
 events_inside st p (e ∷ es) some h =
     let k = all_split InRange (event_tries st p e) _ h in
     (event_inside st p e some k.0, events_inside st (p + span (event_fields e)) es some k.1)
 
-inside_events : (st p : ℕ) (es : List Event) → All (EventOk st) es → All InRange (many_tries (event_tries st) event_fields p es)
-unfolding many_tries All
+inside_events : (st p : ℕ) (es : List Event) → AllByRecursion (EventOk st) es → AllByRecursion InRange (many_tries (event_tries st) event_fields p es)
+unfolding many_tries
 inside_events st p [] h = tt
 inside_events st p (e ∷ es) h = all_append InRange (event_tries st p e) _ (inside_event st p e h.0) (inside_events st (p + span (event_fields e)) es h.1)
 
 -- ---- line-ups
 
-entries_inside : (p : ℕ) (es : List ℕ) → All InRange (many_tries entry_tries entry_fields p es) → All (λ c. c ≤ max_call) es
-unfolding many_tries All
+entries_inside : (p : ℕ) (es : List ℕ) → AllByRecursion InRange (many_tries entry_tries entry_fields p es) → AllByRecursion (λ c. c ≤ max_call) es
+unfolding many_tries
 entries_inside p [] h = tt
 entries_inside p (e ∷ es) h = (h.0.1, entries_inside (p + span (entry_fields e)) es h.1)
 
-inside_entries : (p : ℕ) (es : List ℕ) → All (λ c. c ≤ max_call) es → All InRange (many_tries entry_tries entry_fields p es)
-unfolding many_tries All
+inside_entries : (p : ℕ) (es : List ℕ) → AllByRecursion (λ c. c ≤ max_call) es → AllByRecursion InRange (many_tries entry_tries entry_fields p es)
+unfolding many_tries
 inside_entries p [] h = tt
 inside_entries p (e ∷ es) h = ((omega arith, h.0), inside_entries (p + span (entry_fields e)) es h.1)
 
-lineups_inside : (p : ℕ) (ns es : List ℕ) → All InRange (lineups_tries p ns es) → All (λ n. n ≤ max_entries) ns × All (λ c. c ≤ max_call) (take (total ns) es)
-unfolding lineups_tries lineup_tries All total
+lineups_inside : (p : ℕ) (ns es : List ℕ) → AllByRecursion InRange (lineups_tries p ns es) → AllByRecursion (λ n. n ≤ max_entries) ns × AllByRecursion (λ c. c ≤ max_call) (take (total ns) es)
+unfolding lineups_tries lineup_tries total
 lineups_inside p [] es h = (tt, tt)
 lineups_inside p (n ∷ ns) es h =
     let k = all_split InRange (lineup_tries p n es) _ h in
     let m = lineups_inside (p + span (lineup_fields (take n es))) ns (drop n es) k.1 in
     ((k.0.0.1, m.0), rw (take-add n (total ns) es) (all_append (λ c. c ≤ max_call) (take n es) _ (entries_inside _ _ k.0.1) m.1))
 
-inside_lineups : (p : ℕ) (ns es : List ℕ) → All (λ n. n ≤ max_entries) ns → All (λ c. c ≤ max_call) (take (total ns) es) → All InRange (lineups_tries p ns es)
-unfolding lineups_tries lineup_tries All total
+inside_lineups : (p : ℕ) (ns es : List ℕ) → AllByRecursion (λ n. n ≤ max_entries) ns → AllByRecursion (λ c. c ≤ max_call) (take (total ns) es) → AllByRecursion InRange (lineups_tries p ns es)
+unfolding lineups_tries lineup_tries total
 inside_lineups p [] es h k = tt
 inside_lineups p (n ∷ ns) es h k =
     let m = all_split (λ c. c ≤ max_call) (take n es) _ (rw (take-add n (total ns) es) at k) in
@@ -90,23 +90,19 @@ inside_lineups p (n ∷ ns) es h k =
 
 -- ---- places that are not in use
 
-zeros_inside : (p : ℕ) (vs : List ℕ) → All InRange (zero_tries p vs) → All (λ v. v ≡ 0) vs
-unfolding All
+zeros_inside : (p : ℕ) (vs : List ℕ) → AllByRecursion InRange (zero_tries p vs) → AllByRecursion (λ v. v ≡ 0) vs
 zeros_inside p [] h = tt
 zeros_inside p (v ∷ vs) h = (omega (arith, h.0.1), zeros_inside p vs h.1)
 
-inside_zeros : (p : ℕ) (vs : List ℕ) → All (λ v. v ≡ 0) vs → All InRange (zero_tries p vs)
-unfolding All
+inside_zeros : (p : ℕ) (vs : List ℕ) → AllByRecursion (λ v. v ≡ 0) vs → AllByRecursion InRange (zero_tries p vs)
 inside_zeros p [] h = tt
 inside_zeros p (v ∷ vs) h = ((omega arith, omega (arith, h.0)), inside_zeros p vs h.1)
 
-same_zeros : (vs : List ℕ) → All (λ v. v ≡ 0) vs → vs ≡ replicate (length vs) 0
-unfolding All
+same_zeros : (vs : List ℕ) → AllByRecursion (λ v. v ≡ 0) vs → vs ≡ replicate (length vs) 0
 same_zeros [] h = refl
 same_zeros (v ∷ vs) h = rw h.0 (ap (λ (l : List ℕ). 0 ∷ l) (same_zeros vs h.1))
 
-zeros_all : (n : ℕ) → All {A = ℕ} (λ v. v ≡ 0) (replicate n 0)
-unfolding All
+zeros_all : (n : ℕ) → AllByRecursion {X = ℕ} (λ v. v ≡ 0) (replicate n 0)
 zeros_all zero = tt
 zeros_all (suc n) = (refl, zeros_all n)
 
@@ -117,15 +113,13 @@ first_kind PostAnswered h = absurd (let z : ⊥ = omega arith in z)
 first_kind DrawAnswered h = absurd (let z : ⊥ = omega arith in z)
 first_kind DrawEmpty h = absurd (let z : ⊥ = omega arith in z)
 
-same_events : (es : List Event) → All (λ v. v ≡ 0) (flat_map event_numbers es) → es ≡ replicate (length es) no_event
-unfolding All
+same_events : (es : List Event) → AllByRecursion (λ v. v ≡ 0) (flat_map event_numbers es) → es ≡ replicate (length es) no_event
 same_events [] h = refl
 same_events (e ∷ es) h =
     let n : e ≡ no_event = rw (first_kind e.kind h.0, h.1.0, h.1.1.0) in
     ap (λ (x : Event). x ∷ es) n ∙ ap (λ (l : List Event). no_event ∷ l) (same_events es h.1.1.1)
 
-events_all : (n : ℕ) → All (λ v. v ≡ 0) (flat_map event_numbers (replicate n no_event))
-unfolding All
+events_all : (n : ℕ) → AllByRecursion (λ v. v ≡ 0) (flat_map event_numbers (replicate n no_event))
 events_all zero = tt
 events_all (suc n) = (refl, (refl, (refl, events_all n)))
 
@@ -133,7 +127,7 @@ events_all (suc n) = (refl, (refl, (refl, events_all n)))
 
 module _ (r : Recording) where
   pub used_inside : try_all (used_tries r) ≡ Ok tt → FieldsOk r
-  unfolding used_tries All
+  unfolding used_tries
   used_inside h =
       let k = all_split InRange (header_tries r) _ (all_inside _ h) in
       let m = all_split InRange (many_tries (event_tries r.stations) event_fields (span (header_fields r)) (used_events r)) _ k.1 in
@@ -163,18 +157,18 @@ module _ (r : Recording) where
         rest_entries = padded_back all_entries 0 r.entries (total (used_lengths r)) (most_entries r u) lc (same_zeros _ n.1);
       }
 
-  limits_inside : Limits r → All InRange (record_tries r)
-  unfolding record_tries used_tries All
+  limits_inside : Limits r → AllByRecursion InRange (record_tries r)
+  unfolding record_tries used_tries
   limits_inside o =
       let u = o.fields in
       let t = most_entries r u in
       let de = padded_rest max_events no_event r.events r.count u.count o.rest_events in
       let dn = padded_rest max_stations 0 r.lengths r.stations u.stations o.rest_lengths in
       let dc = padded_rest all_entries 0 r.entries (total (used_lengths r)) t o.rest_entries in
-      let ze : All (λ v. v ≡ 0) (flat_map event_numbers (drop r.count r.events)) = rw de (events_all (max_events - r.count)) in
-      let zn : All (λ v. v ≡ 0) (drop r.stations r.lengths) = rw dn (zeros_all (max_stations - r.stations)) in
-      let zc : All (λ v. v ≡ 0) (drop (total (used_lengths r)) r.entries) = rw dc (zeros_all (all_entries - total (used_lengths r))) in
-      let header : All InRange (header_tries r) = ((omega arith, omega arith), ((omega arith, u.code), ((u.some, u.stations), ((omega arith, u.count), tt)))) in
+      let ze : AllByRecursion (λ v. v ≡ 0) (flat_map event_numbers (drop r.count r.events)) = rw de (events_all (max_events - r.count)) in
+      let zn : AllByRecursion (λ v. v ≡ 0) (drop r.stations r.lengths) = rw dn (zeros_all (max_stations - r.stations)) in
+      let zc : AllByRecursion (λ v. v ≡ 0) (drop (total (used_lengths r)) r.entries) = rw dc (zeros_all (all_entries - total (used_lengths r))) in
+      let header : AllByRecursion InRange (header_tries r) = ((omega arith, omega arith), ((omega arith, u.code), ((u.some, u.stations), ((omega arith, u.count), tt)))) in
       all_append InRange (used_tries r) _
       (all_append InRange (header_tries r) _ header
       (all_append InRange (many_tries (event_tries r.stations) event_fields (span (header_fields r)) (used_events r)) _

@@ -1,14 +1,14 @@
 -- Line-ups and the flat list of their entries; the places in use of a record within the limits.
 use Rattle.std.proofs.Common.{◌≡◌, ℕ, ◌+◌, ◌*◌, ◌≤◌, List, [], ◌∷◌, ◌++◌, map, length, take, drop, refl, ap, ◌∙◌, append_assoc, arith, length-append, length-drop, length-take, drop-drop, take-add}
-use Rattle.std.specs.List.{flat_map}
+use Rattle.std.specs.List.{AllByRecursion, flat_map}
 use Rattle.std.proofs.lemmas.List.{take_at, drop_at, length-map}
 use Rattle.recording.specs.declared.record.Recording.{Recording}
-use Rattle.recording.specs.Record.{All, FieldsOk, Limits, all_entries, parts, lineups_of, max_call, max_entries, max_events, max_stations, no_event, total, used_events, used_lengths}
+use Rattle.recording.specs.Record.{FieldsOk, Limits, all_entries, parts, lineups_of, max_call, max_entries, max_events, max_stations, no_event, total, used_events, used_lengths}
 use Rattle.recording.proofs.Padded.{front_full, padded_long}
 
 -- a line-up within the limits
 abbrev pub LineupOk : List ℕ → Type 0
-LineupOk l = (length l ≤ max_entries) × All (λ c. c ≤ max_call) l
+LineupOk l = (length l ≤ max_entries) × AllByRecursion (λ c. c ≤ max_call) l
 
 abbrev pub lengths : List (List ℕ) → List ℕ
 lengths ls = map (λ l. length l) ls
@@ -54,28 +54,24 @@ unfolding parts total
 parts_push [] es n = refl
 parts_push (m ∷ ns) es n = rw (parts_push ns (drop m es) n, drop-drop (total ns) m es)
 
-pub all_split : {A : Type 0} (P : A → Type 0) (xs ys : List A) → All P (xs ++ ys) → All P xs × All P ys
-unfolding All
+pub all_split : {A : Type 0} (P : A → Type 0) (xs ys : List A) → AllByRecursion P (xs ++ ys) → AllByRecursion P xs × AllByRecursion P ys
 all_split P [] ys h = (tt, h)
 all_split P (x ∷ xs) ys h = let k = all_split P xs ys h.1 in ((h.0, k.0), k.1)
 
-pub all_append : {A : Type 0} (P : A → Type 0) (xs ys : List A) → All P xs → All P ys → All P (xs ++ ys)
-unfolding All
+pub all_append : {A : Type 0} (P : A → Type 0) (xs ys : List A) → AllByRecursion P xs → AllByRecursion P ys → AllByRecursion P (xs ++ ys)
 all_append P [] ys h k = k
 all_append P (x ∷ xs) ys h k = (h.0, all_append P xs ys h.1 k)
 
-pub all_lengths : (ls : List (List ℕ)) → All LineupOk ls → All (λ n. n ≤ max_entries) (lengths ls)
-unfolding All
+pub all_lengths : (ls : List (List ℕ)) → AllByRecursion LineupOk ls → AllByRecursion (λ n. n ≤ max_entries) (lengths ls)
 all_lengths [] h = tt
 all_lengths (l ∷ ls) h = (h.0.0, all_lengths ls h.1)
 
-pub all_flat : (ls : List (List ℕ)) → All LineupOk ls → All (λ c. c ≤ max_call) (flat ls)
-unfolding All
+pub all_flat : (ls : List (List ℕ)) → AllByRecursion LineupOk ls → AllByRecursion (λ c. c ≤ max_call) (flat ls)
 all_flat [] h = tt
 all_flat (l ∷ ls) h = all_append (λ c. c ≤ max_call) l (flat ls) h.0.1 (all_flat ls h.1)
 
-pub all_parts : (ns es : List ℕ) → total ns ≤ length es → All (λ n. n ≤ max_entries) ns → All (λ c. c ≤ max_call) (take (total ns) es) → All LineupOk (parts ns es)
-unfolding All parts total
+pub all_parts : (ns es : List ℕ) → total ns ≤ length es → AllByRecursion (λ n. n ≤ max_entries) ns → AllByRecursion (λ c. c ≤ max_call) (take (total ns) es) → AllByRecursion LineupOk (parts ns es)
+unfolding parts total
 all_parts [] es l h k = tt
 all_parts (n ∷ ns) es l h k =
     let t = take-add n (total ns) es in
@@ -85,8 +81,8 @@ all_parts (n ∷ ns) es l h k =
 
 -- ---- the places in use are there
 
-pub total_most : (ns : List ℕ) → All (λ n. n ≤ max_entries) ns → total ns ≤ max_entries * length ns
-unfolding All total
+pub total_most : (ns : List ℕ) → AllByRecursion (λ n. n ≤ max_entries) ns → total ns ≤ max_entries * length ns
+unfolding total
 total_most [] h = omega arith
 total_most (n ∷ ns) h = let a = total_most ns h.1 in let b = h.0 in omega arith
 

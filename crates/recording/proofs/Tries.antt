@@ -1,12 +1,12 @@
 -- Ranges tried one after the other.
 use Rattle.std.proofs.Common.{◌≡◌, ℕ, ◌+◌, ◌<◌, ◌≤◌, List, [], ◌∷◌, ◌++◌, length, get_or, take, drop, Ok, Err, Result, sym, refl, ap, ◌∙◌, arith, lit≤, drop_of_length-le, drop-drop}
-use Rattle.std.specs.List.{flat_map}
+use Rattle.std.specs.List.{AllByRecursion, flat_map}
 use Rattle.std.proofs.lemmas.List.{drop_more}
 use Rattle.bits.specs.declared.told.Told.{Told}
 use Rattle.recording.specs.Layout.{Field, lineup_fields, span}
 use Rattle.recording.specs.Ranges.{FirstOut, InRange, Tried, and_then, lineup_tries, lineups_tries, many_tries, ranged, try_all}
 use Rattle.recording.specs.declared.record.EventKind.{EventKind}
-use Rattle.recording.specs.Record.{All, max_kind, number_of, parts, total}
+use Rattle.recording.specs.Record.{max_kind, number_of, parts, total}
 use Rattle.recording.proofs.Layouts.{kind_most, span_append}
 use Rattle.recording.proofs.Ranges.{inside_ranged, not_both, ok_parts, ranged_inside, ranged_told, same_err}
 
@@ -50,14 +50,15 @@ module _ {A : Type 0} (tries : ℕ → A → List Tried) (fields : A → List Fi
   unfolding many_tries
   items_stop t h k = inv ∙ rw (drop_more xs i d h) (try_stops (tries p (get_or xs i d)) _ t k)
 
-  pub items_done : length xs ≤ i → try_all (many_tries tries fields p0 xs) ≡ Ok tt
-  unfolding many_tries try_all
-  items_done h = inv ∙ rw (drop_of_length-le xs h)
+pub items_done : {A : Type 0} (tries : ℕ → A → List Tried) (fields : A → List Field) (xs : List A) (p0 p i : ℕ)
+    → try_all (many_tries tries fields p0 xs) ≡ try_all (many_tries tries fields p (drop i xs)) → length xs ≤ i → try_all (many_tries tries fields p0 xs) ≡ Ok tt
+unfolding many_tries try_all
+items_done tries fields xs p0 p i inv h = inv ∙ rw (drop_of_length-le xs h)
 
 -- the bits of the items to come
-module _ {A : Type 0} (fields : A → List Field) (xs : List A) (i : ℕ) (d : A) where
-  pub span_more : i < length xs → span (flat_map fields (drop i xs)) ≡ span (fields (get_or xs i d)) + span (flat_map fields (drop (i + 1) xs))
-  span_more h = rw (drop_more xs i d h) (span_append (fields (get_or xs i d)) (flat_map fields (drop (i + 1) xs)))
+module _ {A : Type 0} (fields : A → List Field) (xs : List A) (i : ℕ) where
+  pub span_more : (d : A) → i < length xs → span (flat_map fields (drop i xs)) ≡ span (fields (get_or xs i d)) + span (flat_map fields (drop (i + 1) xs))
+  span_more d h = rw (drop_more xs i d h) (span_append (fields (get_or xs i d)) (flat_map fields (drop (i + 1) xs)))
 
   pub span_done : length xs ≤ i → span (flat_map fields (drop i xs)) ≡ 0
   unfolding span
@@ -101,21 +102,20 @@ module _ (ns es : List ℕ) (i a : ℕ) where
 
 -- ---- what it says
 
-pub all_inside : (ts : List Tried) → try_all ts ≡ Ok tt → All InRange ts
-unfolding try_all All
+pub all_inside : (ts : List Tried) → try_all ts ≡ Ok tt → AllByRecursion InRange ts
+unfolding try_all
 all_inside [] h = tt
 all_inside (t ∷ ts) h =
     let k = ok_parts (ranged t.bit t.bounds.low t.bounds.high t.value) (λ _. try_all ts) tt h in
     (ranged_inside _ _ _ _ _ k.1, all_inside ts k.2)
 
-pub inside_all : (ts : List Tried) → All InRange ts → try_all ts ≡ Ok tt
-unfolding try_all All
+pub inside_all : (ts : List Tried) → AllByRecursion InRange ts → try_all ts ≡ Ok tt
+unfolding try_all
 inside_all [] h = refl
 inside_all (t ∷ ts) h = rw (inside_ranged t.bit _ _ _ h.0.0 h.0.1) (inside_all ts h.1)
 
 first_by : (x : Tried) (ts : List Tried) (t : Told) (r : Result ℕ Told) → ranged x.bit x.bounds.low x.bounds.high x.value ≡ r
     → and_then r (λ _. try_all ts) ≡ Err t → (try_all ts ≡ Err t → FirstOut ts t) → FirstOut (x ∷ ts) t
-unfolding All
 first_by x ts t (Ok v) e k on =
     let f = on k in
     record {

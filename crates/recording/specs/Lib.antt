@@ -1,4 +1,5 @@
 pub mod Faults
 pub mod Record
+pub mod Lanes
 pub mod Layout
 pub mod Ranges

@@ -1,13 +1,13 @@
 -- Ranges: what a record holds, tried in the sequence of its file, and the first of it that is outside its range.
 use Rattle.std.specs.Prelude.{◌≡◌, ℕ, ◌+◌, ◌-◌, ◌≤◌, cond, ◌&&◌, List, [], ◌∷◌, ◌++◌, map, take, drop, Ok, Err, Result, nat_le}
-use Rattle.std.specs.List.{flat_map}
+use Rattle.std.specs.List.{AllByRecursion, flat_map}
 use Rattle.bits.specs.Told.{told}
 use Rattle.bits.specs.declared.told.Place.TheVariants.{AtBit}
 use Rattle.bits.specs.declared.told.Told.{Told}
 use Rattle.recording.specs.declared.record.Event.{Event}
 use Rattle.recording.specs.declared.record.Recording.{Recording}
 use Rattle.recording.specs.Layout.{Field, entry_fields, event_fields, header_fields, length_field, lineup_fields, record_fields, span}
-use Rattle.recording.specs.Record.{All, Limits, carries, max_call, max_code, max_entries, max_events, max_kind, max_order, max_stations, number_of, total, used_events, used_lengths}
+use Rattle.recording.specs.Record.{Limits, carries, max_call, max_code, max_entries, max_events, max_kind, max_order, max_stations, number_of, total, used_events, used_lengths}
 
 -- the first result, if it is a fault; else what follows from it
 abbrev pub and_then : {X Y : Type 0} → Result X Told → (X → Result Y Told) → Result Y Told
@@ -109,7 +109,7 @@ pub record FirstOut (ts : List Tried) (t : Told) : Type 0 where
   pub out : Tried
   pub after : List Tried
   pub sequence : ts ≡ before ++ out ∷ after
-  pub inside : All InRange before
+  pub inside : AllByRecursion InRange before
   pub outside : InRange out → ⊥
   pub tells : t ≡ told 2 (AtBit out.bit)
 

@@ -1,5 +1,6 @@
 -- What a record holds, which of its places are in use, and when it is within the limits.
 use Rattle.std.specs.Prelude.{◌≡◌, ℕ, ◌+◌, ◌-◌, ◌<◌, ◌≤◌, Bool, true, false, List, [], ◌∷◌, ◌++◌, length, take, drop, replicate}
+use Rattle.std.specs.List.{AllByRecursion}
 use Rattle.recording.specs.declared.record.EventKind.{EventKind}
 use Rattle.recording.specs.declared.record.EventKind.TheVariants.{PostCalled, DrawCalled, PostAnswered, DrawAnswered, DrawEmpty}
 use Rattle.recording.specs.declared.record.Event.{Event}
@@ -104,10 +105,6 @@ padded n z xs = xs ++ replicate (n - length xs) z
 
 -- ---- the limits
 
-unfoldable pub All : {A : Type 0} → (A → Type 0) → List A → Type 0
-All P [] = Unit {0}
-All P (x ∷ xs) = P x × All P xs
-
 -- an event within the limits of a recording with so many stations
 pub record EventOk (stations : ℕ) (e : Event) : Type 0 where
   pub station : e.station < stations
@@ -120,9 +117,9 @@ pub record FieldsOk (r : Recording) : Type 0 where
   pub some : 1 ≤ r.stations
   pub stations : r.stations ≤ max_stations
   pub count : r.count ≤ max_events
-  pub events : All (EventOk r.stations) (used_events r)
-  pub lengths : All (λ n. n ≤ max_entries) (used_lengths r)
-  pub entries : All (λ c. c ≤ max_call) (used_entries r)
+  pub events : AllByRecursion (EventOk r.stations) (used_events r)
+  pub lengths : AllByRecursion (λ n. n ≤ max_entries) (used_lengths r)
+  pub entries : AllByRecursion (λ c. c ≤ max_call) (used_entries r)
 
 -- a recording within the limits: each field in its range, each unused place zero
 pub record Limits (r : Recording) : Type 0 where

@@ -3,10 +3,10 @@
 //! What a record holds is tried in the sequence of its file, and a fault is told at the bit where the field would stand. So
 //! the functions that try fields are told the bit at which their part of the file begins, and give the bit after that part.
 //! Those that try places not in use are told the bit at which such a place is told.
-ghost use Rattle.std.specs.Prelude.{◌≡◌, ◌+◌, ◌*◌, ◌^◌, ◌<◌, ◌≤◌, length, take, drop, Ok, Err, MatchResult};
+ghost use Rattle.std.specs.Prelude.{◌≡◌, ℕ, ◌+◌, ◌*◌, ◌^◌, ◌<◌, ◌≤◌, List, length, take, drop, Ok, Err, MatchResult};
 ghost use Rattle.recording.specs.Faults.{field_told};
-ghost use Rattle.recording.specs.Layout.{entry_fields, event_fields, header_fields, lineup_fields, max_bits, record_fields, span};
-ghost use Rattle.recording.specs.Ranges.{Outside, entry_tries, event_numbers, event_tries, header_tries, lineup_tries, lineups_tries, many_tries, try_all, used_tries, zero_tries};
+ghost use Rattle.recording.specs.Layout.{Field, entry_fields, event_fields, header_fields, lineup_fields, max_bits, record_fields, span};
+ghost use Rattle.recording.specs.Ranges.{Outside, Tried, entry_tries, event_numbers, event_tries, header_tries, lineup_tries, lineups_tries, many_tries, try_all, used_tries, zero_tries};
 ghost use Rattle.recording.specs.Record.{Limits, all_entries, max_entries, max_events, max_stations, parts, total, used_lengths};
 ghost use Rattle.std.specs.List.{flat_map};
 
@@ -44,57 +44,78 @@ fn check_header(recording: &Recording) -> Result<usize, FieldFault>
     Ok(bit + COUNT_WIDTH.bits())
 }
 
-/// Tries an event.
-fn check_event(event: &Event, stations: u16, bit: usize) -> Result<usize, FieldFault>
-    requires stations { 1 ≤ stations }
-    requires countable { bit < 2 ^ 60 }
-    ensures { MatchResult result
-        (λ end. (try_all (event_tries stations bit event.now) ≡ Ok tt)
-        × (end ≡ bit + span (event_fields event.now)) × (end ≤ bit + 18))
-        (λ e. try_all (event_tries stations bit event.now) ≡ Err (field_told e)) }
-{
-    let station = bit + KIND_WIDTH.bits();
-    ranged(station, 0, stations - 1, event.station)?;
-    let end = station + STATION_WIDTH.bits();
-    if event.kind.carries_order() {
-        ranged(end, 0, MAX_ORDER, event.order)?;
-        Ok(end + ORDER_WIDTH.bits())
-    } else {
-        ranged(bit, 0, 0, event.order)?;
-        Ok(end)
+/// What a record has many of, one after the other in its file: events, and the entries of line-ups.
+trait Item {
+    /// What the ranges of an item depend on.
+    type Context: Copy;
+
+    ghost tries: { Self.Context → ℕ → Self → List Tried };
+
+    ghost fields: { Self → List Field };
+
+    /// No item has more bits than these.
+    ghost most: { ℕ };
+
+    /// Tries an item.
+    fn check(&self, context: Self::Context, bit: usize) -> Result<usize, FieldFault>
+        requires { bit < 2 ^ 60 }
+        ensures { MatchResult result
+            (λ end. (try_all (tries context bit self.now) ≡ Ok tt)
+            × (end ≡ bit + span (fields self.now)) × (end ≤ bit + most))
+            (λ e. try_all (tries context bit self.now) ≡ Err (field_told e)) };
+}
+
+/// An event, whose station is below the number of stations.
+impl Item for Event {
+    type Context = u16;
+
+    ghost tries = { event_tries };
+
+    ghost fields = { event_fields };
+
+    ghost most = { 18 };
+
+    fn check(&self, stations: u16, bit: usize) -> Result<usize, FieldFault> {
+        let station = bit + KIND_WIDTH.bits();
+        ranged(station, 0, stations.saturating_sub(1), self.station)?;
+        let end = station + STATION_WIDTH.bits();
+        if self.kind.carries_order() {
+            ranged(end, 0, MAX_ORDER, self.order)?;
+            Ok(end + ORDER_WIDTH.bits())
+        } else {
+            ranged(bit, 0, 0, self.order)?;
+            Ok(end)
+        }
     }
 }
 
-/// Tries events, one after the other.
-fn check_events(events: &[Event], stations: u16, bit: usize) -> Result<usize, FieldFault>
-    requires stations { 1 ≤ stations }
-    requires few { length events.now ≤ max_events }
-    requires countable { bit < 2 ^ 59 }
-    ensures { MatchResult result
-        (λ end. (try_all (many_tries (event_tries stations) event_fields bit events.now) ≡ Ok tt)
-        × (end ≡ bit + span (flat_map event_fields events.now)) × (end ≤ bit + 18 * length events.now))
-        (λ e. try_all (many_tries (event_tries stations) event_fields bit events.now) ≡ Err (field_told e)) }
-{
-    let mut end = bit;
-    for event in events {
-        end = check_event(event, stations, end)?;
+/// An entry, which is the number of a call.
+impl Item for u16 {
+    type Context = ();
+
+    ghost tries = { λ _. entry_tries };
+
+    ghost fields = { entry_fields };
+
+    ghost most = { 9 };
+
+    fn check(&self, _context: (), bit: usize) -> Result<usize, FieldFault> {
+        ranged(bit, 0, MAX_CALL, *self)?;
+        Ok(bit + ENTRY_WIDTH.bits())
     }
-    Ok(end)
 }
 
-/// Tries entries, one after the other.
-fn check_entries(entries: &[u16], bit: usize) -> Result<usize, FieldFault>
-    requires few { length entries.now ≤ max_entries }
-    requires countable { bit < 2 ^ 59 }
+/// Tries items, one after the other.
+fn check_all<T: Item>(items: &[T], context: T::Context, bit: usize) -> Result<usize, FieldFault>
+    requires { bit + T.most * length items.now < 2 ^ 60 }
     ensures { MatchResult result
-        (λ end. (try_all (many_tries entry_tries entry_fields bit entries.now) ≡ Ok tt)
-        × (end ≡ bit + span (flat_map entry_fields entries.now)) × (end ≤ bit + 9 * length entries.now))
-        (λ e. try_all (many_tries entry_tries entry_fields bit entries.now) ≡ Err (field_told e)) }
+        (λ end. (try_all (many_tries (T.tries context) T.fields bit items.now) ≡ Ok tt)
+        × (end ≡ bit + span (flat_map T.fields items.now)) × (end ≤ bit + T.most * length items.now))
+        (λ e. try_all (many_tries (T.tries context) T.fields bit items.now) ≡ Err (field_told e)) }
 {
     let mut end = bit;
-    for entry in entries {
-        ranged(end, 0, MAX_CALL, *entry)?;
-        end += ENTRY_WIDTH.bits();
+    for item in items {
+        end = item.check(context, end)?;
     }
     Ok(end)
 }
@@ -116,7 +137,7 @@ fn check_lineup(
     ranged(at.bit, 0, MAX_ENTRIES as u16, count)?;
     let first = at.index;
     let index = first + count as usize;
-    let bit = check_entries(&entries[first..index], at.bit + LENGTH_WIDTH.bits())?;
+    let bit = check_all(&entries[first..index], (), at.bit + LENGTH_WIDTH.bits())?;
     Ok(Position { bit, index })
 }
 
@@ -152,7 +173,7 @@ fn check_used(recording: &Recording) -> Result<Position, FieldFault>
 {
     let bit = check_header(recording)?;
     let events = &recording.events[0..recording.count as usize];
-    let bit = check_events(events, recording.stations, bit)?;
+    let bit = check_all(events, recording.stations, bit)?;
     let lengths = &recording.lengths[0..recording.stations as usize];
     check_lineups(lengths, &recording.entries, bit)
 }
@@ -175,7 +196,7 @@ fn check_zero_event(event: &Event, bit: usize) -> Result<(), FieldFault>
         (λ _. try_all (zero_tries bit (event_numbers event.now)) ≡ Ok tt)
         (λ e. try_all (zero_tries bit (event_numbers event.now)) ≡ Err (field_told e)) }
 {
-    check_zeros(&[event.kind.number(), event.station, event.order], bit)
+    check_zeros(&[event.kind.into(), event.station, event.order], bit)
 }
 
 /// Tries events that must be zero.

@@ -1,11 +1,8 @@
-ghost use Rattle.recording.specs.Record.{all_zero, carries, number_of};
-ghost use Rattle.std.specs.Prelude.{◌≡◌};
+ghost use Rattle.recording.specs.Record.{all_zero, carries, max_kind, number_of};
+ghost use Rattle.std.specs.Prelude.{◌≡◌, ◌<◌, MatchResult};
 
 /// The highest code of a kind of lane.
 pub const MAX_CODE: u16 = 3;
-
-/// The highest number of a kind of event.
-pub const MAX_KIND: u16 = 4;
 
 /// The highest order.
 pub const MAX_ORDER: u16 = 4095;
@@ -26,35 +23,23 @@ pub const MAX_ENTRIES: usize = 512;
 pub const ALL_ENTRIES: usize = 4096;
 
 /// What an event tells. A station (a thread of the run, such as the wheel or the winch) calls a post, which puts an order
-/// (a numbered value) into the store, or a draw, which takes one out; later the call is answered.
-#[derive(Clone, Copy)]
+/// (a numbered value) into the store, or a draw, which takes one out; later the call is answered. Each kind has a number in
+/// a file.
+#[derive(Clone, Copy, Debug, PartialEq, Eq, Hash)]
 pub enum EventKind {
     /// A post of an order is called. Carries the order.
-    PostCalled,
+    PostCalled = 0,
     /// A draw is called.
-    DrawCalled,
+    DrawCalled = 1,
     /// A post is answered.
-    PostAnswered,
+    PostAnswered = 2,
     /// A draw is answered with an order. Carries the order.
-    DrawAnswered,
+    DrawAnswered = 3,
     /// A draw is answered empty.
-    DrawEmpty,
+    DrawEmpty = 4,
 }
 
 impl EventKind {
-    /// The number that stands for the kind in a file.
-    pub fn number(self) -> u16
-        ensures { result ≡ number_of self }
-    {
-        match self {
-            EventKind::PostCalled => 0,
-            EventKind::DrawCalled => 1,
-            EventKind::PostAnswered => 2,
-            EventKind::DrawAnswered => 3,
-            EventKind::DrawEmpty => 4,
-        }
-    }
-
     /// Whether an event of this kind carries an order.
     pub fn carries_order(self) -> bool
         ensures { result ≡ carries self }
@@ -66,8 +51,41 @@ impl EventKind {
     }
 }
 
+impl From<EventKind> for u16 {
+    ghost from_gives = { λ kind number. number ≡ number_of kind };
+
+    /// The number that stands for the kind in a file.
+    fn from(kind: EventKind) -> u16 {
+        kind as u16
+    }
+}
+
+/// A number that stands for no kind of event.
+#[derive(Clone, Copy, Debug, PartialEq, Eq, Hash)]
+pub struct UnknownKind;
+
+impl TryFrom<u16> for EventKind {
+    type Error = UnknownKind;
+
+    ghost try_from_gives = { λ number result. MatchResult result
+        (λ kind. number ≡ number_of kind)
+        (λ _. max_kind < number) };
+
+    /// The kind that a number stands for in a file.
+    fn try_from(number: u16) -> Result<EventKind, UnknownKind> {
+        match number {
+            0 => Ok(EventKind::PostCalled),
+            1 => Ok(EventKind::DrawCalled),
+            2 => Ok(EventKind::PostAnswered),
+            3 => Ok(EventKind::DrawAnswered),
+            4 => Ok(EventKind::DrawEmpty),
+            _ => Err(UnknownKind),
+        }
+    }
+}
+
 /// One event of a recording.
-#[derive(Clone, Copy)]
+#[derive(Clone, Copy, Debug, PartialEq, Eq, Hash)]
 pub struct Event {
     pub kind: EventKind,
     /// The station that calls or is answered.

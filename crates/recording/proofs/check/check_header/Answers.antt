@@ -10,21 +10,21 @@ pub returns-in_err-ranged : goal.returns-in_err-ranged
 unfolding try_all
 returns-in_err-ranged c =
     let r = err_from_is_err_and c.from_residual.result c.from_residual.ensures.1 in
-    let h = rw c.bits-bit.ensures at c.in_err-ranged.ensures in
+    let h = rw c.bits-bit.ensures.value at c.in_err-ranged.ensures in
     rw (r.1, r.2, edition_in, ranged_out _ _ _ _ _ h)
 
 pub returns-in_err-ranged-2 : goal.returns-in_err-ranged-2
 unfolding try_all
 returns-in_err-ranged-2 c =
     let r = err_from_is_err_and c.from_residual-in_err-ranged-2.result c.from_residual-in_err-ranged-2.ensures.1 in
-    let h = rw (c.bits-bit.ensures, c.bits.ensures) at c.in_err-ranged-2.ensures in
+    let h = rw (c.bits-bit.ensures.value, c.bits.ensures.value) at c.in_err-ranged-2.ensures in
     rw (r.1, r.2, edition_in, ranged_in 4 _ _ _ _ c.in_ok-ranged.ensures, ranged_out _ _ _ _ _ h)
 
 pub returns-in_err-ranged-3 : goal.returns-in_err-ranged-3
 unfolding try_all
 returns-in_err-ranged-3 c =
     let r = err_from_is_err_and c.from_residual-in_err-ranged-3.result c.from_residual-in_err-ranged-3.ensures.1 in
-    let h = rw (c.bits-bit.ensures, c.bits.ensures, c.bits-2.ensures) at c.in_err-ranged-3.ensures in
+    let h = rw (c.bits-bit.ensures.value, c.bits.ensures.value, c.bits-2.ensures.value) at c.in_err-ranged-3.ensures in
     rw (r.1, r.2, edition_in, ranged_in 4 _ _ _ _ c.in_ok-ranged.ensures, ranged_in 8 _ _ _ _ c.in_ok-ranged-2.ensures, ranged_out _ _ _ _ _ h)
 
 pub returns : goal.returns
@@ -33,4 +33,4 @@ returns c =
     let a = c.in_ok-ranged.ensures in
     let b = c.in_ok-ranged-2.ensures in
     let d = c.in_ok-ranged-3.ensures in
-    (rw (edition_in, ranged_in 4 _ _ _ _ a, ranged_in 8 _ _ _ _ b, ranged_in 12 _ _ _ _ d), omega (arith, c.bits-bit.ensures, c.bits.ensures, c.bits-2.ensures, c.bits-3.ensures), b.1, b.2, d.2)
+    (rw (edition_in, ranged_in 4 _ _ _ _ a, ranged_in 8 _ _ _ _ b, ranged_in 12 _ _ _ _ d), omega (arith, c.bits-bit.ensures.value, c.bits.ensures.value, c.bits-2.ensures.value, c.bits-3.ensures.value), b.1, b.2, d.2)

@@ -13,12 +13,12 @@ returns-in_err-bit c =
 pub slice_bounds-events-end : goal.slice_bounds-events-end
 slice_bounds-events-end c = c.in_ok-bit.ensures.4
 
-pub check_events-requires : goal.check_events-requires
+pub check_all-requires : goal.check_all-requires
 unfolding span
-check_events-requires c =
+check_all-requires c =
     let h = c.in_ok-bit.ensures in
     let n = length-take (c.args.recording.now.count - 0) c.args.recording.now.events in
-    record { stations = h.2; few = omega (arith, n, h.4); countable = omega (arith, h.1) }
+    omega (arith, n, h.1, h.4)
 
 pub returns-in_err-bit-2 : goal.returns-in_err-bit-2
 returns-in_err-bit-2 c =
