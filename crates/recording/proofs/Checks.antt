@@ -1,20 +1,24 @@
 -- A record passes its ranges exactly when it is within the limits.
-use Rattle.std.proofs.Common.{◌≡◌, ℕ, zero, suc, ◌+◌, ◌-◌, ◌≤◌, Bool, true, false, List, [], ◌∷◌, ◌++◌, length, take, drop, replicate, Ok, Err, sym, refl, ap, ◌∙◌, arith, take-add}
-use Rattle.std.specs.List.{AllByRecursion, flat_map}
-use Rattle.std.proofs.lemmas.List.{map-append}
-use Rattle.std.proofs.lemmas.Bool.{both_ways}
+use Rattle.std.proofs.Common.{◌≡◌, ℕ, zero, suc, ◌+◌, ◌-◌, ◌≤◌, Bool, true, false, ◌&&◌, ◌==◌, List, [], ◌∷◌, ◌++◌, length, take, drop, replicate, Ok, Err, IsTrue, sym, refl, ap, ◌∙◌, inr, arith, take-add}
+use Rattle.std.specs.List.{All, AllByRecursion, flat_map}
+use Rattle.std.proofs.lemmas.List.Elements.{All-from_recursion, recursion_from_All}
+use Rattle.std.proofs.lemmas.Bool.{and_parts, both_ways, eqb-true}
 use Rattle.bits.specs.declared.told.Told.{Told}
+use Rattle.bits.specs.declared.told.Place.TheVariants.{AtBit}
+use Rattle.bits.specs.Told.{told}
+use denote.Enum.Bare.{sameb}
+use Rattle.recording.specs.contracts.record.EventKind.{the_type}
 use Rattle.recording.specs.declared.record.Event.{Event}
 use Rattle.recording.specs.declared.record.EventKind.{EventKind}
 use Rattle.recording.specs.declared.record.EventKind.TheVariants.{PostCalled, DrawCalled, PostAnswered, DrawAnswered, DrawEmpty}
 use Rattle.recording.specs.declared.record.Recording.{Recording}
 use Rattle.recording.specs.Layout.{entry_fields, event_fields, header_fields, lineup_fields, record_fields, span}
-use Rattle.recording.specs.Ranges.{InRange, Outside, Tried, between, entry_tries, event_numbers, event_tries, header_tries, lineup_tries, lineups_tries, many_tries, record_tries, tried, try_all, unused, used_tries, zero_tries}
+use Rattle.recording.specs.Ranges.{InRange, Outside, Tried, entry_tries, event_numbers, event_tries, header_tries, lineup_tries, lineups_tries, many_tries, record_tries, try_all, unused, used_tries, zero_tries}
 use Rattle.recording.specs.Record.{EventOk, FieldsOk, Limits, all_entries, carries, lineups_of, max_call, max_entries, max_events, max_stations, no_event, number_of, total, used_events, used_lengths}
 use Rattle.recording.proofs.Layouts.{kind_most, span_append}
 use Rattle.recording.proofs.Lineups.{all_append, all_split, most_entries}
 use Rattle.recording.proofs.Padded.{padded_back, padded_rest}
-use Rattle.recording.proofs.Ranges.{not_both}
+use Rattle.recording.proofs.Ranges.{inside_ranged, not_both, ranged_out}
 use Rattle.recording.proofs.Tries.{all_inside, first_out, inside_all, try_past, try_stops}
 
 -- ---- events
@@ -90,10 +94,6 @@ inside_lineups p (n ∷ ns) es h k =
 
 -- ---- places that are not in use
 
-zeros_inside : (p : ℕ) (vs : List ℕ) → AllByRecursion InRange (zero_tries p vs) → AllByRecursion (λ v. v ≡ 0) vs
-zeros_inside p [] h = tt
-zeros_inside p (v ∷ vs) h = (omega (arith, h.0.1), zeros_inside p vs h.1)
-
 inside_zeros : (p : ℕ) (vs : List ℕ) → AllByRecursion (λ v. v ≡ 0) vs → AllByRecursion InRange (zero_tries p vs)
 inside_zeros p [] h = tt
 inside_zeros p (v ∷ vs) h = ((omega arith, omega (arith, h.0)), inside_zeros p vs h.1)
@@ -123,6 +123,55 @@ events_all : (n : ℕ) → AllByRecursion (λ v. v ≡ 0) (flat_map event_number
 events_all zero = tt
 events_all (suc n) = (refl, (refl, (refl, events_all n)))
 
+-- numbers of which one is not zero
+zeros_fail : (p : ℕ) (vs : List ℕ) → (AllByRecursion (λ v. v ≡ 0) vs → ⊥) → try_all (zero_tries p vs) ≡ Err (told 2 (AtBit p))
+unfolding try_all
+zeros_fail p [] h = absurd (h tt)
+zeros_fail p (zero ∷ vs) h = rw (inside_ranged p 0 0 0 (omega arith) (omega arith)) (zeros_fail p vs (λ k. h (refl, k)))
+zeros_fail p (suc v ∷ vs) h = rw (ranged_out p 0 0 (suc v) (told 2 (AtBit p)) (refl, inr (omega arith)))
+
+-- items that are all the same as z, by a test that tells z from the others
+module _ {A : Type 0} (same : A → Bool) (z : A) where
+  same_by : ((x : A) → same x ≡ true → x ≡ z) → (xs : List A) → AllByRecursion (λ x. same x ≡ true) xs → xs ≡ replicate (length xs) z
+  same_by f [] h = refl
+  same_by f (x ∷ xs) h = rw (f x h.0) (ap (λ (l : List A). z ∷ l) (same_by f xs h.1))
+
+  by_same : same z ≡ true → (n : ℕ) → AllByRecursion (λ x. same x ≡ true) (replicate n z)
+  by_same k zero = tt
+  by_same k (suc n) = (k, by_same k n)
+
+  pub all_same : ((x : A) → same x ≡ true → x ≡ z) → (xs : List A) → All (λ x. same x ≡ true) xs → xs ≡ replicate (length xs) z
+  all_same f xs h = same_by f xs (recursion_from_All _ xs h)
+
+  pub not_same : same z ≡ true → (xs : List A) (b : Bool) → (All (λ x. same x ≡ true) xs → IsTrue b) → b ≡ false → xs ≡ replicate (length xs) z → ⊥
+  not_same k xs b tells f e = both_ways b f (tells (rw e (All-from_recursion _ _ (by_same k (length xs)))))
+
+-- the tests of an event and of a number, as their derived and their own equality are
+abbrev pub is_no_event : Event → Bool
+is_no_event e = sameb the_type e.kind PostCalled && (e.station == 0 && e.order == 0)
+
+abbrev pub is_zero : ℕ → Bool
+is_zero n = n == 0
+
+first_only : (k : EventKind) → sameb the_type k PostCalled ≡ true → k ≡ PostCalled
+first_only PostCalled h = refl
+first_only DrawCalled h = absurd (both_ways false refl h)
+first_only PostAnswered h = absurd (both_ways false refl h)
+first_only DrawAnswered h = absurd (both_ways false refl h)
+first_only DrawEmpty h = absurd (both_ways false refl h)
+
+pub no_event_only : (e : Event) → is_no_event e ≡ true → e ≡ no_event
+no_event_only e h =
+    let k = and_parts _ _ h in
+    let n = and_parts _ _ k.1 in
+    rw (first_only e.kind k.0, eqb-true e.station 0 n.0, eqb-true e.order 0 n.1)
+
+-- the places that are not in use are zero throughout
+pub record Idle (r : Recording) : Type 0 where
+  pub events : drop r.count r.events ≡ replicate (length (drop r.count r.events)) no_event
+  pub lengths : drop r.stations r.lengths ≡ replicate (length (drop r.stations r.lengths)) 0
+  pub entries : drop (total (used_lengths r)) r.entries ≡ replicate (length (drop (total (used_lengths r)) r.entries)) 0
+
 -- ---- the record
 
 module _ (r : Recording) where
@@ -142,20 +191,22 @@ module _ (r : Recording) where
         entries = l.1;
       }
 
-  used_limits : length r.events ≡ max_events → length r.lengths ≡ max_stations → length r.entries ≡ all_entries
-      → FieldsOk r → try_all (record_tries r) ≡ Ok tt → Limits r
-  unfolding record_tries
-  used_limits le ln lc u h =
-      let k = all_split InRange (used_tries r) _ (all_inside _ h) in
-      let z = zeros_inside (span (record_fields r)) (unused r) k.1 in
-      let m = all_split (λ v. v ≡ 0) (flat_map event_numbers (drop r.count r.events)) _ z in
-      let n = all_split (λ v. v ≡ 0) (drop r.stations r.lengths) _ m.1 in
+  pub idle_limits : length r.events ≡ max_events → length r.lengths ≡ max_stations → length r.entries ≡ all_entries
+      → FieldsOk r → Idle r → Limits r
+  idle_limits le ln lc u z =
       record {
         fields = u;
-        rest_events = padded_back max_events no_event r.events r.count u.count le (same_events _ m.0);
-        rest_lengths = padded_back max_stations 0 r.lengths r.stations u.stations ln (same_zeros _ n.0);
-        rest_entries = padded_back all_entries 0 r.entries (total (used_lengths r)) (most_entries r u) lc (same_zeros _ n.1);
+        rest_events = padded_back max_events no_event r.events r.count u.count le z.events;
+        rest_lengths = padded_back max_stations 0 r.lengths r.stations u.stations ln z.lengths;
+        rest_entries = padded_back all_entries 0 r.entries (total (used_lengths r)) (most_entries r u) lc z.entries;
       }
+
+  -- so the numbers in the places not in use are not all zero
+  not_idle : (Idle r → ⊥) → AllByRecursion (λ v. v ≡ 0) (unused r) → ⊥
+  not_idle h z =
+      let m = all_split (λ v. v ≡ 0) (flat_map event_numbers (drop r.count r.events)) _ z in
+      let n = all_split (λ v. v ≡ 0) (drop r.stations r.lengths) _ m.1 in
+      h (record { events = same_events _ m.0; lengths = same_zeros _ n.0; entries = same_zeros _ n.1 })
 
   limits_inside : Limits r → AllByRecursion InRange (record_tries r)
   unfolding record_tries used_tries
@@ -219,19 +270,6 @@ module _ (r : Recording) where
           omega arith
 
   module _ (a : try_all (used_tries r) ≡ Ok tt) (p : ℕ) (e : p ≡ span (record_fields r)) where
-    pub unused_outside : (t : Told) → try_all (zero_tries p (unused r)) ≡ Err t → Outside r t
+    pub idle_outside : (Idle r → ⊥) → Outside r (told 2 (AtBit p))
     unfolding record_tries
-    unused_outside t h = outside t (try_past (used_tries r) _ a ∙ rw e at h)
-
-    pub unused_limits : length r.events ≡ max_events → length r.lengths ≡ max_stations → length r.entries ≡ all_entries
-        → try_all (zero_tries p (unused r)) ≡ Ok tt → Limits r
-    unfolding record_tries
-    unused_limits le ln lc h = used_limits le ln lc (used_inside a) (try_past (used_tries r) _ a ∙ rw e at h)
-
--- zeros in two parts
-module _ (p : ℕ) (vs ws : List ℕ) where
-  pub zeros_past : try_all (zero_tries p vs) ≡ Ok tt → try_all (zero_tries p (vs ++ ws)) ≡ try_all (zero_tries p ws)
-  zeros_past h = rw (map-append (λ v. tried p (between 0 0) v) vs ws) (try_past (zero_tries p vs) (zero_tries p ws) h)
-
-  pub zeros_stop : (t : Told) → try_all (zero_tries p vs) ≡ Err t → try_all (zero_tries p (vs ++ ws)) ≡ Err t
-  zeros_stop t h = rw (map-append (λ v. tried p (between 0 0) v) vs ws) (try_stops (zero_tries p vs) (zero_tries p ws) t h)
+    idle_outside h = rw e (outside _ (try_past (used_tries r) _ a ∙ zeros_fail _ (unused r) (not_idle h)))

@@ -3,10 +3,10 @@
 //! What a record holds is tried in the sequence of its file, and a fault is told at the bit where the field would stand. So
 //! the functions that try fields are told the bit at which their part of the file begins, and give the bit after that part.
 //! Those that try places not in use are told the bit at which such a place is told.
-ghost use Rattle.std.specs.Prelude.{◌≡◌, ℕ, ◌+◌, ◌*◌, ◌^◌, ◌<◌, ◌≤◌, List, length, take, drop, Ok, Err, MatchResult};
+ghost use Rattle.std.specs.Prelude.{◌≡◌, ℕ, ◌+◌, ◌*◌, ◌^◌, ◌<◌, ◌≤◌, List, length, take, drop, Ok, Err, MatchResult, IsTrue, All, true, ◌↔◌};
 ghost use Rattle.recording.specs.Faults.{field_told};
 ghost use Rattle.recording.specs.Layout.{Field, entry_fields, event_fields, header_fields, lineup_fields, max_bits, record_fields, span};
-ghost use Rattle.recording.specs.Ranges.{Outside, Tried, entry_tries, event_numbers, event_tries, header_tries, lineup_tries, lineups_tries, many_tries, try_all, used_tries, zero_tries};
+ghost use Rattle.recording.specs.Ranges.{Outside, Tried, entry_tries, event_tries, header_tries, lineup_tries, lineups_tries, many_tries, try_all, used_tries};
 ghost use Rattle.recording.specs.Record.{Limits, all_entries, max_entries, max_events, max_stations, parts, total, used_lengths};
 ghost use Rattle.std.specs.List.{flat_map};
 
@@ -162,6 +162,13 @@ fn check_lineups(
     Ok(end)
 }
 
+/// Whether all items are the same as one.
+fn all_are<T: PartialEq>(items: &[T], one: &T) -> bool
+    ensures { IsTrue result ↔ All (λ item. T.eq item one.now ≡ true) items.now }
+{
+    items.iter().all(|item| item == one)
+}
+
 /// Tries the fields, in the sequence of the file.
 fn check_used(recording: &Recording) -> Result<Position, FieldFault>
     ensures { MatchResult result
@@ -178,39 +185,6 @@ fn check_used(recording: &Recording) -> Result<Position, FieldFault>
     check_lineups(lengths, &recording.entries, bit)
 }
 
-/// Tries numbers that must be zero.
-fn check_zeros(numbers: &[u16], bit: usize) -> Result<(), FieldFault>
-    ensures { MatchResult result
-        (λ _. try_all (zero_tries bit numbers.now) ≡ Ok tt)
-        (λ e. try_all (zero_tries bit numbers.now) ≡ Err (field_told e)) }
-{
-    for number in numbers {
-        ranged(bit, 0, 0, *number)?;
-    }
-    Ok(())
-}
-
-/// Tries an event that must be zero.
-fn check_zero_event(event: &Event, bit: usize) -> Result<(), FieldFault>
-    ensures { MatchResult result
-        (λ _. try_all (zero_tries bit (event_numbers event.now)) ≡ Ok tt)
-        (λ e. try_all (zero_tries bit (event_numbers event.now)) ≡ Err (field_told e)) }
-{
-    check_zeros(&[event.kind.into(), event.station, event.order], bit)
-}
-
-/// Tries events that must be zero.
-fn check_zero_events(events: &[Event], bit: usize) -> Result<(), FieldFault>
-    ensures { MatchResult result
-        (λ _. try_all (zero_tries bit (flat_map event_numbers events.now)) ≡ Ok tt)
-        (λ e. try_all (zero_tries bit (flat_map event_numbers events.now)) ≡ Err (field_told e)) }
-{
-    for event in events {
-        check_zero_event(event, bit)?;
-    }
-    Ok(())
-}
-
 /// Tries the places that are not in use, after the fields, which end where they are said to.
 fn check_unused(recording: &Recording, end: Position) -> Result<(), FieldFault>
     requires used { try_all (used_tries recording.now) ≡ Ok tt }
@@ -221,9 +195,14 @@ fn check_unused(recording: &Recording, end: Position) -> Result<(), FieldFault>
         (λ e. Outside recording.now (field_told e)) }
 {
     let Position { bit, index } = end;
-    check_zero_events(&recording.events[recording.count as usize..], bit)?;
-    check_zeros(&recording.lengths[recording.stations as usize..], bit)?;
-    check_zeros(&recording.entries[index..], bit)
+    let events = &recording.events[recording.count as usize..];
+    let lengths = &recording.lengths[recording.stations as usize..];
+    let entries = &recording.entries[index..];
+    if all_are(events, &Event::ZERO) && all_are(lengths, &0) && all_are(entries, &0) {
+        Ok(())
+    } else {
+        Err(FieldFault::Range { bit })
+    }
 }
 
 /// Checks that a record is within the limits, and tells how many bits its fields have in a file. What is outside is told at

@@ -114,6 +114,15 @@ pub struct Recording {
     pub entries: [u16; ALL_ENTRIES],
 }
 
+impl Event {
+    /// The event that is zero throughout, which stands in the places that are not in use.
+    pub const ZERO: Event = Event {
+        kind: EventKind::PostCalled,
+        station: 0,
+        order: 0,
+    };
+}
+
 impl Recording {
     /// A record with zero in every place.
     pub fn zero() -> Recording
@@ -123,11 +132,7 @@ impl Recording {
             code: 0,
             stations: 0,
             count: 0,
-            events: [Event {
-                kind: EventKind::PostCalled,
-                station: 0,
-                order: 0,
-            }; MAX_EVENTS],
+            events: [Event::ZERO; MAX_EVENTS],
             lengths: [0; MAX_STATIONS],
             entries: [0; ALL_ENTRIES],
         }
