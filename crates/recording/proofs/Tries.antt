@@ -66,39 +66,39 @@ module _ {A : Type 0} (fields : A → List Field) (xs : List A) (i : ℕ) where
 
 -- ---- line-ups, one after the other
 
-module _ (ns es : List ℕ) (p0 p i a : ℕ) (inv : try_all (lineups_tries p0 ns es) ≡ try_all (lineups_tries p (drop i ns) (drop a es))) where
-  pub lineups_more : i < length ns → try_all (lineup_tries p (get_or ns i 0) (drop a es)) ≡ Ok tt
-      → try_all (lineups_tries p0 ns es) ≡ try_all (lineups_tries (p + span (lineup_fields (take (get_or ns i 0) (drop a es)))) (drop (i + 1) ns) (drop (a + get_or ns i 0) es))
+module _ (ns es rest : List ℕ) (p0 p i : ℕ) (inv : try_all (lineups_tries p0 ns es) ≡ try_all (lineups_tries p (drop i ns) rest)) where
+  pub lineups_more : i < length ns → try_all (lineup_tries p (get_or ns i 0) rest) ≡ Ok tt
+      → try_all (lineups_tries p0 ns es) ≡ try_all (lineups_tries (p + span (lineup_fields (take (get_or ns i 0) rest))) (drop (i + 1) ns) (drop (get_or ns i 0) rest))
   unfolding lineups_tries
-  lineups_more h k = inv ∙ rw (drop_more ns i 0 h, ← drop-drop (get_or ns i 0) a es) (try_past (lineup_tries p (get_or ns i 0) (drop a es)) _ k)
+  lineups_more h k = inv ∙ rw (drop_more ns i 0 h) (try_past (lineup_tries p (get_or ns i 0) rest) _ k)
 
-  pub lineups_stop : (t : Told) → i < length ns → try_all (lineup_tries p (get_or ns i 0) (drop a es)) ≡ Err t → try_all (lineups_tries p0 ns es) ≡ Err t
+  pub lineups_stop : (t : Told) → i < length ns → try_all (lineup_tries p (get_or ns i 0) rest) ≡ Err t → try_all (lineups_tries p0 ns es) ≡ Err t
   unfolding lineups_tries
-  lineups_stop t h k = inv ∙ rw (drop_more ns i 0 h) (try_stops (lineup_tries p (get_or ns i 0) (drop a es)) _ t k)
+  lineups_stop t h k = inv ∙ rw (drop_more ns i 0 h) (try_stops (lineup_tries p (get_or ns i 0) rest) _ t k)
 
   pub lineups_done : length ns ≤ i → try_all (lineups_tries p0 ns es) ≡ Ok tt
   unfolding lineups_tries try_all
   lineups_done h = inv ∙ rw (drop_of_length-le ns h)
 
 -- the bits and the entries of the line-ups to come
-module _ (ns es : List ℕ) (i a : ℕ) where
+module _ (ns rest : List ℕ) (i : ℕ) where
   pub parts_more : i < length ns
-      → span (flat_map lineup_fields (parts (drop i ns) (drop a es)))
-      ≡ span (lineup_fields (take (get_or ns i 0) (drop a es))) + span (flat_map lineup_fields (parts (drop (i + 1) ns) (drop (a + get_or ns i 0) es)))
+      → span (flat_map lineup_fields (parts (drop i ns) rest))
+      ≡ span (lineup_fields (take (get_or ns i 0) rest)) + span (flat_map lineup_fields (parts (drop (i + 1) ns) (drop (get_or ns i 0) rest)))
   unfolding parts
-  parts_more h = rw (drop_more ns i 0 h, ← drop-drop (get_or ns i 0) a es) (span_append (lineup_fields (take (get_or ns i 0) (drop a es))) _)
+  parts_more h = rw (drop_more ns i 0 h) (span_append (lineup_fields (take (get_or ns i 0) rest)) _)
 
-  pub parts_done : length ns ≤ i → span (flat_map lineup_fields (parts (drop i ns) (drop a es))) ≡ 0
+  pub parts_done : length ns ≤ i → span (flat_map lineup_fields (parts (drop i ns) rest)) ≡ 0
   unfolding parts span
   parts_done h = rw (drop_of_length-le ns h)
 
-  pub total_more : i < length ns → total (drop i ns) ≡ get_or ns i 0 + total (drop (i + 1) ns)
+  pub rest_more : i < length ns → drop (total (drop i ns)) rest ≡ drop (total (drop (i + 1) ns)) (drop (get_or ns i 0) rest)
   unfolding total
-  total_more h = rw (drop_more ns i 0 h)
+  rest_more h = rw (drop_more ns i 0 h, drop-drop)
 
-  pub total_done : length ns ≤ i → total (drop i ns) ≡ 0
+  pub rest_done : length ns ≤ i → drop (total (drop i ns)) rest ≡ rest
   unfolding total
-  total_done h = rw (drop_of_length-le ns h)
+  rest_done h = rw (drop_of_length-le ns h)
 
 -- ---- what it says
 

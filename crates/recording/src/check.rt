@@ -21,11 +21,11 @@ use crate::record::{
     Recording,
 };
 
-/// A place between two line-ups: the bit of the file, and the index in the list of entries.
+/// What is still to be tried: the bit of the file at which it begins, and the entries that are left.
 #[derive(Clone, Copy)]
-struct Position {
+struct Rest<'a> {
     bit: usize,
-    index: usize,
+    entries: &'a [u16],
 }
 
 /// Tries the fields before the events, from the first bit on.
@@ -120,46 +120,43 @@ fn check_all<T: Item>(items: &[T], context: T::Context, bit: usize) -> Result<us
     Ok(end)
 }
 
-/// Tries the line-up at a position, which has so many entries.
-fn check_lineup(
-    count: u16,
-    entries: &[u16; ALL_ENTRIES],
-    at: Position,
-) -> Result<Position, FieldFault>
-    requires room { at.index + max_entries ≤ all_entries }
-    requires countable { at.bit < 2 ^ 58 }
+/// Tries a line-up, which is the first so many of the entries.
+fn check_lineup(count: u16, entries: &[u16], bit: usize) -> Result<Rest<'_>, FieldFault>
+    requires room { max_entries ≤ length entries.now }
+    requires countable { bit < 2 ^ 58 }
     ensures { MatchResult result
-        (λ end. (try_all (lineup_tries at.bit count (drop at.index entries.now)) ≡ Ok tt)
-        × (end.bit ≡ at.bit + span (lineup_fields (take count (drop at.index entries.now))))
-        × (end.index ≡ at.index + count) × (count ≤ max_entries) × (end.bit ≤ at.bit + (10 + 9 * max_entries)))
-        (λ e. try_all (lineup_tries at.bit count (drop at.index entries.now)) ≡ Err (field_told e)) }
+        (λ rest. (try_all (lineup_tries bit count entries.now) ≡ Ok tt)
+        × (rest.bit ≡ bit + span (lineup_fields (take count entries.now)))
+        × (rest.entries.now ≡ drop count entries.now)
+        × (count ≤ max_entries) × (rest.bit ≤ bit + (10 + 9 * max_entries)))
+        (λ e. try_all (lineup_tries bit count entries.now) ≡ Err (field_told e)) }
 {
-    ranged(at.bit, 0, MAX_ENTRIES as u16, count)?;
-    let first = at.index;
-    let index = first + count as usize;
-    let bit = check_all(&entries[first..index], (), at.bit + LENGTH_WIDTH.bits())?;
-    Ok(Position { bit, index })
+    ranged(bit, 0, MAX_ENTRIES as u16, count)?;
+    let (lineup, entries) = entries.split_at(count as usize);
+    let bit = check_all(lineup, (), bit + LENGTH_WIDTH.bits())?;
+    Ok(Rest { bit, entries })
 }
 
 /// Tries line-ups of these lengths, one after the other.
-fn check_lineups(
+fn check_lineups<'a>(
     lengths: &[u16],
-    entries: &[u16; ALL_ENTRIES],
+    entries: &'a [u16; ALL_ENTRIES],
     bit: usize,
-) -> Result<Position, FieldFault>
+) -> Result<Rest<'a>, FieldFault>
     requires few { length lengths.now ≤ max_stations }
     requires countable { bit < 2 ^ 57 }
     ensures { MatchResult result
-        (λ end. (try_all (lineups_tries bit lengths.now entries.now) ≡ Ok tt)
-        × (end.bit ≡ bit + span (flat_map lineup_fields (parts lengths.now entries.now)))
-        × (end.index ≡ total lengths.now) × (end.index ≤ all_entries) × (end.bit ≤ bit + max_stations * (10 + 9 * max_entries)))
+        (λ rest. (try_all (lineups_tries bit lengths.now entries.now) ≡ Ok tt)
+        × (rest.bit ≡ bit + span (flat_map lineup_fields (parts lengths.now entries.now)))
+        × (rest.entries.now ≡ drop (total lengths.now) entries.now)
+        × (rest.bit ≤ bit + max_stations * (10 + 9 * max_entries)))
         (λ e. try_all (lineups_tries bit lengths.now entries.now) ≡ Err (field_told e)) }
 {
-    let mut end = Position { bit, index: 0 };
+    let mut rest = Rest { bit, entries };
     for length in lengths {
-        end = check_lineup(*length, entries, end)?;
+        rest = check_lineup(*length, rest.entries, rest.bit)?;
     }
-    Ok(end)
+    Ok(rest)
 }
 
 /// Whether all items are the same as one.
@@ -170,12 +167,12 @@ fn all_are<T: PartialEq>(items: &[T], one: &T) -> bool
 }
 
 /// Tries the fields, in the sequence of the file.
-fn check_used(recording: &Recording) -> Result<Position, FieldFault>
+fn check_used(recording: &Recording) -> Result<Rest<'_>, FieldFault>
     ensures { MatchResult result
-        (λ end. (try_all (used_tries recording.now) ≡ Ok tt)
-        × (end.bit ≡ span (record_fields recording.now))
-        × (end.index ≡ total (used_lengths recording.now))
-        × (end.bit ≤ max_bits))
+        (λ rest. (try_all (used_tries recording.now) ≡ Ok tt)
+        × (rest.bit ≡ span (record_fields recording.now))
+        × (rest.entries.now ≡ drop (total (used_lengths recording.now)) recording.now.entries)
+        × (rest.bit ≤ max_bits))
         (λ e. Outside recording.now (field_told e)) }
 {
     let bit = check_header(recording)?;
@@ -185,19 +182,18 @@ fn check_used(recording: &Recording) -> Result<Position, FieldFault>
     check_lineups(lengths, &recording.entries, bit)
 }
 
-/// Tries the places that are not in use, after the fields, which end where they are said to.
-fn check_unused(recording: &Recording, end: Position) -> Result<(), FieldFault>
+/// Tries the places that are not in use, after the fields.
+fn check_unused(recording: &Recording, rest: Rest) -> Result<(), FieldFault>
     requires used { try_all (used_tries recording.now) ≡ Ok tt }
-    requires bit { end.bit ≡ span (record_fields recording.now) }
-    requires index { end.index ≡ total (used_lengths recording.now) }
+    requires bit { rest.bit ≡ span (record_fields recording.now) }
+    requires entries { rest.entries.now ≡ drop (total (used_lengths recording.now)) recording.now.entries }
     ensures { MatchResult result
         (λ _. Limits recording.now)
         (λ e. Outside recording.now (field_told e)) }
 {
-    let Position { bit, index } = end;
+    let Rest { bit, entries } = rest;
     let events = &recording.events[recording.count as usize..];
     let lengths = &recording.lengths[recording.stations as usize..];
-    let entries = &recording.entries[index..];
     if all_are(events, &Event::ZERO) && all_are(lengths, &0) && all_are(entries, &0) {
         Ok(())
     } else {
@@ -213,7 +209,7 @@ pub fn check(recording: &Recording) -> Result<usize, FieldFault>
         (λ bits. Limits recording.now × (bits ≡ span (record_fields recording.now)) × (bits ≤ max_bits))
         (λ e. Outside recording.now (field_told e)) }
 {
-    let end = check_used(recording)?;
-    check_unused(recording, end)?;
-    Ok(end.bit)
+    let rest = check_used(recording)?;
+    check_unused(recording, rest)?;
+    Ok(rest.bit)
 }

@@ -1,4 +1,4 @@
-use Rattle.std.proofs.Common.{◌≡◌, ◌+◌, ◌-◌, drop, refl, arith, length-take}
+use Rattle.std.proofs.Common.{arith, length-take}
 use Rattle.std.proofs.lemmas.Result.{err_from_is_err_and}
 use Rattle.recording.specs.Layout.{lineup_fields, span}
 use Rattle.recording.specs.Ranges.{lineup_tries, try_all}
@@ -15,14 +15,12 @@ pub returns-in_err-bit : goal.returns-in_err-bit
 unfolding lineup_tries try_all
 returns-in_err-bit c =
     let r = err_from_is_err_and c.from_residual-in_err-bit.result c.from_residual-in_err-bit.ensures.1 in
-    let e : c.args.at.index + c.args.count - c.args.at.index ≡ c.args.count = omega arith in
-    rw (r.1, r.2, ranged_in _ _ _ _ _ c.in_ok-ranged.ensures) (rw (e, c.bits.ensures.value) at c.in_err-bit.ensures)
+    rw (r.1, r.2, ranged_in _ _ _ _ _ c.in_ok-ranged.ensures) (rw (c.split_at.ensures.front, c.bits.ensures.value) at c.in_err-bit.ensures)
 
 pub returns : goal.returns
 unfolding lineup_tries try_all lineup_fields span
 returns c =
     let h = c.in_ok-ranged.ensures in
-    let e : c.args.at.index + c.args.count - c.args.at.index ≡ c.args.count = omega arith in
-    let k = rw (e, c.bits.ensures.value) at c.in_ok-bit.ensures in
-    let n = length-take c.args.count (drop c.args.at.index c.args.entries.now) in
-    (rw (ranged_in _ _ _ _ _ h) k.0, omega (arith, k.1), refl, h.2, omega (arith, k.2, n, h.2))
+    let k = rw (c.split_at.ensures.front, c.bits.ensures.value) at c.in_ok-bit.ensures in
+    let n = length-take c.args.count c.args.entries.now in
+    (rw (ranged_in _ _ _ _ _ h) k.0, omega (arith, k.1), c.split_at.ensures.back, h.2, omega (arith, k.2, n, h.2))

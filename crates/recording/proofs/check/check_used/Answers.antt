@@ -49,6 +49,6 @@ returns c =
       all_used c.args.recording.now h.0 b.0 _ b.1 l.0,
       l.1 ∙ sym (bits_used c.args.recording.now h.0 b.0 _ b.1),
       l.2,
-      omega (arith, b.2, l.4, n, h.4),
+      omega (arith, b.2, l.3, n, h.4),
     ))
     (λ e l. lineups_outside c.args.recording.now h.0 b.0 _ b.1 _ l)
