@@ -1,3 +1,4 @@
+pub mod Exits
 pub mod Spells
 mod Windows
 pub mod Widths

@@ -1,5 +1,5 @@
 use Rattle.std.proofs.Common.{◌+◌, ◌≡◌, sym, ap, ◌∙◌, length, arith, mul-add}
-use Rattle.std.proofs.lemmas.Result.{err_from_is_err_and}
+use Rattle.bits.proofs.Exits.{at_fault}
 use Rattle.recording.specs.Layout.{span}
 use Rattle.recording.specs.Ranges.{try_all}
 use Rattle.recording.proofs.Tries.{items_done, items_more, items_stop, span_done, span_more}
@@ -8,9 +8,8 @@ use Rattle.recording.proofs.check.check_all.Goals as goal
 pub returns-in_err-end : goal.returns-in_err-end
 returns-in_err-end g c =
     let tries = g.T.Item.tries c.args.context in
-    let r = err_from_is_err_and c.from_residual.result c.from_residual.ensures.1 in
     let e = ap (λ x. try_all (tries c.loop-item.end x)) (sym c.item-item.is) in
-    rw (r.1, r.2) (items_stop tries g.T.Item.fields c.args.items.now _ _ _ c.item-item.result c.loop-item.invariant.0 _ c.loop-item-test.true (e ∙ c.in_err-end.ensures))
+    at_fault _ _ c.from_residual.result _ c.from_residual.ensures.1 (items_stop tries g.T.Item.fields c.args.items.now _ _ _ c.item-item.result c.loop-item.invariant.0 _ c.loop-item-test.true (e ∙ c.in_err-end.ensures))
 
 pub loop-item-preserved : goal.loop-item-preserved
 loop-item-preserved g c =

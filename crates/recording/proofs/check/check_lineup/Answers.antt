@@ -1,5 +1,5 @@
 use Rattle.std.proofs.Common.{arith, length-take}
-use Rattle.std.proofs.lemmas.Result.{err_from_is_err_and}
+use Rattle.bits.proofs.Exits.{at_fault}
 use Rattle.recording.specs.Layout.{lineup_fields, span}
 use Rattle.recording.specs.Ranges.{lineup_tries, try_all}
 use Rattle.recording.proofs.Ranges.{ranged_in, ranged_out}
@@ -8,14 +8,12 @@ use Rattle.recording.proofs.check.check_lineup.Goals as goal
 pub returns-in_err-ranged : goal.returns-in_err-ranged
 unfolding lineup_tries try_all
 returns-in_err-ranged c =
-    let r = err_from_is_err_and c.from_residual.result c.from_residual.ensures.1 in
-    rw (r.1, r.2, ranged_out _ _ _ _ _ c.in_err-ranged.ensures)
+    at_fault _ _ c.from_residual.result _ c.from_residual.ensures.1 (rw (ranged_out _ _ _ _ _ c.in_err-ranged.ensures))
 
 pub returns-in_err-bit : goal.returns-in_err-bit
 unfolding lineup_tries try_all
 returns-in_err-bit c =
-    let r = err_from_is_err_and c.from_residual-in_err-bit.result c.from_residual-in_err-bit.ensures.1 in
-    rw (r.1, r.2, ranged_in _ _ _ _ _ c.in_ok-ranged.ensures) (rw (c.split_at.ensures.front, c.bits.ensures.value) at c.in_err-bit.ensures)
+    at_fault _ _ c.from_residual-in_err-bit.result _ c.from_residual-in_err-bit.ensures.1 (rw (ranged_in _ _ _ _ _ c.in_ok-ranged.ensures) (rw (c.split_at.ensures.front, c.bits.ensures.value) at c.in_err-bit.ensures))
 
 pub returns : goal.returns
 unfolding lineup_tries try_all lineup_fields span

@@ -1,5 +1,5 @@
 use Rattle.std.proofs.Common.{sym, ◌∙◌, arith, length-drop}
-use Rattle.std.proofs.lemmas.Result.{err_from_is_err_and}
+use Rattle.bits.proofs.Exits.{at_fault}
 use Rattle.recording.proofs.Tries.{lineups_done, lineups_more, lineups_stop, parts_done, parts_more, rest_done, rest_more}
 use Rattle.recording.proofs.check.check_lineups.Goals as goal
 
@@ -10,8 +10,7 @@ check_lineup-requires c =
 
 pub returns-in_err-rest : goal.returns-in_err-rest
 returns-in_err-rest c =
-    let r = err_from_is_err_and c.from_residual.result c.from_residual.ensures.1 in
-    rw (r.1, r.2) (lineups_stop _ _ _ _ _ _ c.loop-length.invariant.0 _ c.loop-length-test.true c.in_err-rest.ensures)
+    at_fault _ _ c.from_residual.result _ c.from_residual.ensures.1 (lineups_stop _ _ _ _ _ _ c.loop-length.invariant.0 _ c.loop-length-test.true c.in_err-rest.ensures)
 
 pub loop-length-preserved : goal.loop-length-preserved
 loop-length-preserved c =

@@ -1,14 +1,14 @@
 use Rattle.std.proofs.Common.{◌-◌, sym, ◌∙◌, arith, length-take}
 use native.Mathlib.Nat.{sub-zero}
-use Rattle.std.proofs.lemmas.Result.{MatchResult-weaker, err_from_is_err_and}
+use Rattle.std.proofs.lemmas.Result.{MatchResult-weaker}
+use Rattle.bits.proofs.Exits.{at_fault}
 use Rattle.recording.specs.Layout.{span}
 use Rattle.recording.proofs.Checks.{all_used, bits_used, events_outside, header_outside, lineups_outside}
 use Rattle.recording.proofs.check.check_used.Goals as goal
 
 pub returns-in_err-bit : goal.returns-in_err-bit
 returns-in_err-bit c =
-    let r = err_from_is_err_and c.from_residual.result c.from_residual.ensures.1 in
-    rw (r.1, r.2) (header_outside c.args.recording.now _ c.in_err-bit.ensures)
+    at_fault _ _ c.from_residual.result _ c.from_residual.ensures.1 (header_outside c.args.recording.now _ c.in_err-bit.ensures)
 
 pub slice_bounds-events-end : goal.slice_bounds-events-end
 slice_bounds-events-end c = c.in_ok-bit.ensures.4
@@ -22,9 +22,8 @@ check_all-requires c =
 
 pub returns-in_err-bit-2 : goal.returns-in_err-bit-2
 returns-in_err-bit-2 c =
-    let r = err_from_is_err_and c.from_residual-in_err-bit-2.result c.from_residual-in_err-bit-2.ensures.1 in
     let h = c.in_ok-bit.ensures in
-    rw (r.1, r.2) (events_outside c.args.recording.now h.0 _ (rw (sub-zero, h.1) at c.in_err-bit-2.ensures))
+    at_fault _ _ c.from_residual-in_err-bit-2.result _ c.from_residual-in_err-bit-2.ensures.1 (events_outside c.args.recording.now h.0 _ (rw (sub-zero, h.1) at c.in_err-bit-2.ensures))
 
 pub slice_bounds-lengths-end : goal.slice_bounds-lengths-end
 slice_bounds-lengths-end c = c.in_ok-bit.ensures.3

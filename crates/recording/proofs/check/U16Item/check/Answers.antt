@@ -1,5 +1,5 @@
 use Rattle.std.proofs.Common.{arith}
-use Rattle.std.proofs.lemmas.Result.{err_from_is_err_and}
+use Rattle.bits.proofs.Exits.{at_fault}
 use Rattle.recording.specs.Layout.{span}
 use Rattle.recording.specs.Ranges.{try_all}
 use Rattle.recording.proofs.Ranges.{ranged_in, ranged_out}
@@ -8,8 +8,7 @@ use Rattle.recording.proofs.check.U16Item.check.Goals as goal
 pub returns-in_err-ranged : goal.returns-in_err-ranged
 unfolding try_all
 returns-in_err-ranged c =
-    let r = err_from_is_err_and c.from_residual.result c.from_residual.ensures.1 in
-    rw (r.1, r.2, ranged_out _ _ _ _ _ c.in_err-ranged.ensures)
+    at_fault _ _ c.from_residual.result _ c.from_residual.ensures.1 (rw (ranged_out _ _ _ _ _ c.in_err-ranged.ensures))
 
 pub returns : goal.returns
 unfolding try_all span
