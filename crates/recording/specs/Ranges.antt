@@ -1,11 +1,13 @@
 -- Ranges: what a record holds, tried in the sequence of its file, and the first of it that is outside its range.
-use Rattle.std.specs.Prelude.{◌≡◌, ℕ, ◌+◌, ◌-◌, ◌≤◌, cond, ◌&&◌, List, [], ◌∷◌, ◌++◌, map, take, drop, Ok, Err, Result, nat_le}
+use Rattle.std.specs.Prelude.{◌≡◌, ℕ, ◌+◌, ◌-◌, ◌≤◌, cond, ◌&&◌, List, [], ◌∷◌, ◌++◌, map, take, drop, Ok, Err, Result, MatchResult, nat_le}
 use Rattle.std.specs.List.{AllByRecursion, flat_map}
 use Rattle.bits.specs.Told.{told}
 use Rattle.bits.specs.declared.told.Place.TheVariants.{AtBit}
 use Rattle.bits.specs.declared.told.Told.{Told}
+use Rattle.recording.specs.declared.fault.FieldFault.{FieldFault}
 use Rattle.recording.specs.declared.record.Event.{Event}
 use Rattle.recording.specs.declared.record.Recording.{Recording}
+use Rattle.recording.specs.Faults.{field_told}
 use Rattle.recording.specs.Layout.{Field, entry_fields, event_fields, header_fields, length_field, lineup_fields, record_fields, span}
 use Rattle.recording.specs.Record.{Limits, carries, max_call, max_code, max_entries, max_events, max_kind, max_order, max_stations, number_of, total, used_events, used_lengths}
 
@@ -122,3 +124,7 @@ pub record Outside (r : Recording) (t : Told) : Type 0 where
 unfoldable pub try_all : List Tried → Result (Unit {0}) Told
 try_all [] = Ok tt
 try_all (t ∷ ts) = and_then (ranged t.bit t.bounds.low t.bounds.high t.value) (λ _. try_all ts)
+
+-- what a check of these gives: where all are inside, P holds of its result; else it is the fault of the first that is not
+abbrev pub Checks : {X : Type 0} → Result X FieldFault → List Tried → (X → Type 0) → Type 0
+Checks result ts P = MatchResult result (λ x. (try_all ts ≡ Ok tt) × P x) (λ e. try_all ts ≡ Err (field_told e))

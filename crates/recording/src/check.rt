@@ -6,7 +6,7 @@
 ghost use Rattle.std.specs.Prelude.{◌≡◌, ℕ, ◌+◌, ◌*◌, ◌^◌, ◌<◌, ◌≤◌, List, length, take, drop, Ok, Err, MatchResult, IsTrue, All, true, ◌↔◌};
 ghost use Rattle.recording.specs.Faults.{field_told};
 ghost use Rattle.recording.specs.Layout.{Field, entry_fields, event_fields, header_fields, lineup_fields, max_bits, record_fields, span};
-ghost use Rattle.recording.specs.Ranges.{Outside, Tried, entry_tries, event_tries, header_tries, lineup_tries, lineups_tries, many_tries, try_all, used_tries};
+ghost use Rattle.recording.specs.Ranges.{Checks, Outside, Tried, entry_tries, event_tries, header_tries, lineup_tries, lineups_tries, many_tries, try_all, used_tries};
 ghost use Rattle.recording.specs.Record.{Limits, all_entries, max_entries, max_events, max_stations, parts, total, used_lengths};
 ghost use Rattle.std.specs.List.{flat_map};
 
@@ -30,10 +30,8 @@ struct Rest<'a> {
 
 /// Tries the fields before the events, from the first bit on.
 fn check_header(recording: &Recording) -> Result<usize, FieldFault>
-    ensures { MatchResult result
-        (λ end. (try_all (header_tries recording.now) ≡ Ok tt) × (end ≡ span (header_fields recording.now))
-        × (1 ≤ recording.now.stations) × (recording.now.stations ≤ max_stations) × (recording.now.count ≤ max_events))
-        (λ e. try_all (header_tries recording.now) ≡ Err (field_told e)) }
+    ensures { Checks result (header_tries recording.now) (λ end. (end ≡ span (header_fields recording.now))
+        × (1 ≤ recording.now.stations) × (recording.now.stations ≤ max_stations) × (recording.now.count ≤ max_events)) }
 {
     let bit = EDITION_WIDTH.bits();
     ranged(bit, 0, MAX_CODE, recording.code)?;
@@ -59,10 +57,8 @@ trait Item {
     /// Tries an item.
     fn check(&self, context: Self::Context, bit: usize) -> Result<usize, FieldFault>
         requires { bit < 2 ^ 60 }
-        ensures { MatchResult result
-            (λ end. (try_all (tries context bit self.now) ≡ Ok tt)
-            × (end ≡ bit + span (fields self.now)) × (end ≤ bit + most))
-            (λ e. try_all (tries context bit self.now) ≡ Err (field_told e)) };
+        ensures { Checks result (tries context bit self.now)
+            (λ end. (end ≡ bit + span (fields self.now)) × (end ≤ bit + most)) };
 }
 
 /// An event, whose station is below the number of stations.
@@ -108,10 +104,8 @@ impl Item for u16 {
 /// Tries items, one after the other.
 fn check_all<T: Item>(items: &[T], context: T::Context, bit: usize) -> Result<usize, FieldFault>
     requires { bit + T.most * length items.now < 2 ^ 60 }
-    ensures { MatchResult result
-        (λ end. (try_all (many_tries (T.tries context) T.fields bit items.now) ≡ Ok tt)
-        × (end ≡ bit + span (flat_map T.fields items.now)) × (end ≤ bit + T.most * length items.now))
-        (λ e. try_all (many_tries (T.tries context) T.fields bit items.now) ≡ Err (field_told e)) }
+    ensures { Checks result (many_tries (T.tries context) T.fields bit items.now)
+        (λ end. (end ≡ bit + span (flat_map T.fields items.now)) × (end ≤ bit + T.most * length items.now)) }
 {
     let mut end = bit;
     for item in items {
@@ -124,12 +118,10 @@ fn check_all<T: Item>(items: &[T], context: T::Context, bit: usize) -> Result<us
 fn check_lineup(count: u16, entries: &[u16], bit: usize) -> Result<Rest<'_>, FieldFault>
     requires room { max_entries ≤ length entries.now }
     requires countable { bit < 2 ^ 58 }
-    ensures { MatchResult result
-        (λ rest. (try_all (lineup_tries bit count entries.now) ≡ Ok tt)
-        × (rest.bit ≡ bit + span (lineup_fields (take count entries.now)))
+    ensures { Checks result (lineup_tries bit count entries.now)
+        (λ rest. (rest.bit ≡ bit + span (lineup_fields (take count entries.now)))
         × (rest.entries.now ≡ drop count entries.now)
-        × (count ≤ max_entries) × (rest.bit ≤ bit + (10 + 9 * max_entries)))
-        (λ e. try_all (lineup_tries bit count entries.now) ≡ Err (field_told e)) }
+        × (count ≤ max_entries) × (rest.bit ≤ bit + (10 + 9 * max_entries))) }
 {
     ranged(bit, 0, MAX_ENTRIES as u16, count)?;
     let (lineup, entries) = entries.split_at(count as usize);
@@ -145,12 +137,10 @@ fn check_lineups<'a>(
 ) -> Result<Rest<'a>, FieldFault>
     requires few { length lengths.now ≤ max_stations }
     requires countable { bit < 2 ^ 57 }
-    ensures { MatchResult result
-        (λ rest. (try_all (lineups_tries bit lengths.now entries.now) ≡ Ok tt)
-        × (rest.bit ≡ bit + span (flat_map lineup_fields (parts lengths.now entries.now)))
+    ensures { Checks result (lineups_tries bit lengths.now entries.now)
+        (λ rest. (rest.bit ≡ bit + span (flat_map lineup_fields (parts lengths.now entries.now)))
         × (rest.entries.now ≡ drop (total lengths.now) entries.now)
-        × (rest.bit ≤ bit + max_stations * (10 + 9 * max_entries)))
-        (λ e. try_all (lineups_tries bit lengths.now entries.now) ≡ Err (field_told e)) }
+        × (rest.bit ≤ bit + max_stations * (10 + 9 * max_entries))) }
 {
     let mut rest = Rest { bit, entries };
     for length in lengths {

@@ -19,11 +19,11 @@ loop-item-preserved g c =
     let f = ap (λ x. span (g.T.Item.fields x)) (sym c.item-item.is) in
     let m = span_more g.T.Item.fields c.args.items.now c.loop-item.item-index c.item-item.result c.loop-item-test.true in
     let n = items_more tries g.T.Item.fields c.args.items.now _ _ _ c.item-item.result c.loop-item.invariant.0 c.loop-item-test.true (e ∙ h.0) in
-    (rw (h.1 ∙ ap (λ s. c.loop-item.end + s) (sym f)) n, omega (arith, m, f, h.1, c.loop-item.invariant.1), omega (arith, h.2, c.loop-item.invariant.2, mul-add g.T.Item.most c.loop-item.item-index 1))
+    (rw (h.1.0 ∙ ap (λ s. c.loop-item.end + s) (sym f)) n, omega (arith, m, f, h.1.0, c.loop-item.invariant.1), omega (arith, h.1.1, c.loop-item.invariant.2, mul-add g.T.Item.most c.loop-item.item-index 1))
 
 pub returns : goal.returns
 returns g c =
     let tries = g.T.Item.tries c.args.context in
     let m = span_done g.T.Item.fields c.args.items.now c.loop-item.item-index c.loop-item-test.false in
     let e : c.loop-item.item-index ≡ length c.args.items.now = omega (arith, c.loop-item.auto.item-index-end) in
-    (items_done tries g.T.Item.fields c.args.items.now _ _ _ c.loop-item.invariant.0 c.loop-item-test.false, omega (arith, m, c.loop-item.invariant.1), rw e at c.loop-item.invariant.2)
+    (items_done tries g.T.Item.fields c.args.items.now _ _ _ c.loop-item.invariant.0 c.loop-item-test.false, (omega (arith, m, c.loop-item.invariant.1), rw e at c.loop-item.invariant.2))

@@ -30,4 +30,4 @@ returns c =
     let a = c.in_ok-ranged.ensures in
     let b = c.in_ok-ranged-2.ensures in
     let d = c.in_ok-ranged-3.ensures in
-    (rw (edition_in, ranged_in 4 _ _ _ _ a, ranged_in 8 _ _ _ _ b, ranged_in 12 _ _ _ _ d), omega (arith, c.bits-bit.ensures.value, c.bits.ensures.value, c.bits-2.ensures.value, c.bits-3.ensures.value), b.1, b.2, d.2)
+    (rw (edition_in, ranged_in 4 _ _ _ _ a, ranged_in 8 _ _ _ _ b, ranged_in 12 _ _ _ _ d), (omega (arith, c.bits-bit.ensures.value, c.bits.ensures.value, c.bits-2.ensures.value, c.bits-3.ensures.value), b.1, b.2, d.2))

@@ -21,4 +21,4 @@ returns c =
     let h = c.in_ok-ranged.ensures in
     let k = rw (c.split_at.ensures.front, c.bits.ensures.value) at c.in_ok-bit.ensures in
     let n = length-take c.args.count c.args.entries.now in
-    (rw (ranged_in _ _ _ _ _ h) k.0, omega (arith, k.1), c.split_at.ensures.back, h.2, omega (arith, k.2, n, h.2))
+    (rw (ranged_in _ _ _ _ _ h) k.0, (omega (arith, k.1.0), c.split_at.ensures.back, h.2, omega (arith, k.1.1, n, h.2)))

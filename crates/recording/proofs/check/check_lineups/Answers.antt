@@ -21,7 +21,7 @@ loop-length-preserved c =
     let p = parts_more ns es c.loop-length.length-index c.loop-length-test.true in
     let t = rest_more ns es c.loop-length.length-index c.loop-length-test.true in
     let m = lineups_more _ _ _ _ _ _ v.0 c.loop-length-test.true h.0 in
-    (rw (h.1, h.2) m, rw (h.1, h.2) (omega (arith, p, v.1)), rw h.2 (sym t ∙ v.2), rw h.2 (simp length-drop (omega (arith, h.3, v.3))), omega (arith, h.4, v.4))
+    (rw (h.1.0, h.1.1) m, rw (h.1.0, h.1.1) (omega (arith, p, v.1)), rw h.1.1 (sym t ∙ v.2), rw h.1.1 (simp length-drop (omega (arith, h.1.2, v.3))), omega (arith, h.1.3, v.4))
 
 pub returns : goal.returns
 returns c =
@@ -30,4 +30,4 @@ returns c =
     let es = c.loop-length.rest.entries.now in
     let p = parts_done ns es c.loop-length.length-index c.loop-length-test.false in
     let t = rest_done ns es c.loop-length.length-index c.loop-length-test.false in
-    (lineups_done _ _ _ _ _ _ v.0 c.loop-length-test.false, omega (arith, p, v.1), sym t ∙ v.2, omega (arith, v.4))
+    (lineups_done _ _ _ _ _ _ v.0 c.loop-length-test.false, (omega (arith, p, v.1), sym t ∙ v.2, omega (arith, v.4)))

@@ -11,22 +11,22 @@ returns-in_err-bit c =
     at_fault _ _ c.from_residual.result _ c.from_residual.ensures.1 (header_outside c.args.recording.now _ c.in_err-bit.ensures)
 
 pub slice_bounds-events-end : goal.slice_bounds-events-end
-slice_bounds-events-end c = c.in_ok-bit.ensures.4
+slice_bounds-events-end c = c.in_ok-bit.ensures.1.3
 
 pub check_all-requires : goal.check_all-requires
 unfolding span
 check_all-requires c =
     let h = c.in_ok-bit.ensures in
     let n = length-take (c.args.recording.now.count - 0) c.args.recording.now.events in
-    omega (arith, n, h.1, h.4)
+    omega (arith, n, h.1.0, h.1.3)
 
 pub returns-in_err-bit-2 : goal.returns-in_err-bit-2
 returns-in_err-bit-2 c =
     let h = c.in_ok-bit.ensures in
-    at_fault _ _ c.from_residual-in_err-bit-2.result _ c.from_residual-in_err-bit-2.ensures.1 (events_outside c.args.recording.now h.0 _ (rw (sub-zero, h.1) at c.in_err-bit-2.ensures))
+    at_fault _ _ c.from_residual-in_err-bit-2.result _ c.from_residual-in_err-bit-2.ensures.1 (events_outside c.args.recording.now h.0 _ (rw (sub-zero, h.1.0) at c.in_err-bit-2.ensures))
 
 pub slice_bounds-lengths-end : goal.slice_bounds-lengths-end
-slice_bounds-lengths-end c = c.in_ok-bit.ensures.3
+slice_bounds-lengths-end c = c.in_ok-bit.ensures.1.2
 
 pub check_lineups-requires : goal.check_lineups-requires
 unfolding span
@@ -35,19 +35,19 @@ check_lineups-requires c =
     let b = c.in_ok-bit-2.ensures in
     let n = length-take (c.args.recording.now.count - 0) c.args.recording.now.events in
     let m = length-take (c.args.recording.now.stations - 0) c.args.recording.now.lengths in
-    record { few = omega (arith, m, h.3); countable = omega (arith, h.1, b.2, n, h.4) }
+    record { few = omega (arith, m, h.1.2); countable = omega (arith, h.1.0, b.1.1, n, h.1.3) }
 
 pub returns : goal.returns
 unfolding span
 returns c =
     let h = c.in_ok-bit.ensures in
     let n = length-take c.args.recording.now.count c.args.recording.now.events in
-    let b = rw (sub-zero, h.1) at c.in_ok-bit-2.ensures in
+    let b = rw (sub-zero, h.1.0) at c.in_ok-bit-2.ensures in
     MatchResult-weaker c.check_lineups.result (rw sub-zero at c.check_lineups.ensures)
     (λ end l. (
-      all_used c.args.recording.now h.0 b.0 _ b.1 l.0,
-      l.1 ∙ sym (bits_used c.args.recording.now h.0 b.0 _ b.1),
-      l.2,
-      omega (arith, b.2, l.3, n, h.4),
+      all_used c.args.recording.now h.0 b.0 _ b.1.0 l.0,
+      l.1.0 ∙ sym (bits_used c.args.recording.now h.0 b.0 _ b.1.0),
+      l.1.1,
+      omega (arith, b.1.1, l.1.2, n, h.1.3),
     ))
-    (λ e l. lineups_outside c.args.recording.now h.0 b.0 _ b.1 _ l)
+    (λ e l. lineups_outside c.args.recording.now h.0 b.0 _ b.1.0 _ l)

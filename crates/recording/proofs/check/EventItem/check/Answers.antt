@@ -40,7 +40,7 @@ returns-in_ok-ranged-2 c =
     let a = c.bits.ensures.value in
     let b = c.bits-2.ensures.value in
     let d = c.bits-then-carries_order.ensures.value in
-    rw y (rw (k, s, o), omega (arith, a, b, d), omega (arith, a, b, d))
+    rw y (rw (k, s, o), (omega (arith, a, b, d), omega (arith, a, b, d)))
 
 pub returns-in_ok-ranged-3 : goal.returns-in_ok-ranged-3
 unfolding event_tries event_fields try_all span
@@ -51,4 +51,4 @@ returns-in_ok-ranged-3 c =
     let o = ranged_in c.args.bit _ _ _ _ c.in_ok-ranged-3.ensures in
     let a = c.bits.ensures.value in
     let b = c.bits-2.ensures.value in
-    rw y (rw (k, s, o), omega (arith, a, b), omega (arith, a, b))
+    rw y (rw (k, s, o), (omega (arith, a, b), omega (arith, a, b)))

@@ -12,4 +12,4 @@ returns-in_err-ranged c =
 
 pub returns : goal.returns
 unfolding try_all span
-returns c = (rw (ranged_in _ _ _ _ _ c.in_ok-ranged.ensures), omega (arith, c.bits.ensures.value), omega (arith, c.bits.ensures.value))
+returns c = (rw (ranged_in _ _ _ _ _ c.in_ok-ranged.ensures), (omega (arith, c.bits.ensures.value), omega (arith, c.bits.ensures.value)))
