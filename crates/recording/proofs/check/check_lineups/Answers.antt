@@ -3,11 +3,6 @@ use Rattle.bits.proofs.Exits.{at_fault}
 use Rattle.recording.proofs.Tries.{lineups_done, lineups_more, lineups_stop, parts_done, parts_more, rest_done, rest_more}
 use Rattle.recording.proofs.check.check_lineups.Goals as goal
 
-pub check_lineup-requires : goal.check_lineup-requires
-check_lineup-requires c =
-    let v = c.loop-length.invariant in
-    record { room = omega (arith, v.3); countable = omega (arith, v.4) }
-
 pub returns-in_err-rest : goal.returns-in_err-rest
 returns-in_err-rest c =
     at_fault _ _ c.from_residual.result _ c.from_residual.ensures.1 (lineups_stop _ _ _ _ _ _ c.loop-length.invariant.0 _ c.loop-length-test.true c.in_err-rest.ensures)

@@ -10,9 +10,6 @@ pub returns-in_err-bit : goal.returns-in_err-bit
 returns-in_err-bit c =
     at_fault _ _ c.from_residual.result _ c.from_residual.ensures.1 (header_outside c.args.recording.now _ c.in_err-bit.ensures)
 
-pub slice_bounds-events-end : goal.slice_bounds-events-end
-slice_bounds-events-end c = c.in_ok-bit.ensures.1.3
-
 pub check_all-requires : goal.check_all-requires
 unfolding span
 check_all-requires c =
@@ -25,17 +22,13 @@ returns-in_err-bit-2 c =
     let h = c.in_ok-bit.ensures in
     at_fault _ _ c.from_residual-in_err-bit-2.result _ c.from_residual-in_err-bit-2.ensures.1 (events_outside c.args.recording.now h.0 _ (rw (sub-zero, h.1.0) at c.in_err-bit-2.ensures))
 
-pub slice_bounds-lengths-end : goal.slice_bounds-lengths-end
-slice_bounds-lengths-end c = c.in_ok-bit.ensures.1.2
-
-pub check_lineups-requires : goal.check_lineups-requires
+pub check_lineups-requires-clause-countable : goal.check_lineups-requires-clause-countable
 unfolding span
-check_lineups-requires c =
+check_lineups-requires-clause-countable c =
     let h = c.in_ok-bit.ensures in
     let b = c.in_ok-bit-2.ensures in
     let n = length-take (c.args.recording.now.count - 0) c.args.recording.now.events in
-    let m = length-take (c.args.recording.now.stations - 0) c.args.recording.now.lengths in
-    record { few = omega (arith, m, h.1.2); countable = omega (arith, h.1.0, b.1.1, n, h.1.3) }
+    omega (arith, h.1.0, b.1.1, n, h.1.3)
 
 pub returns : goal.returns
 unfolding span
