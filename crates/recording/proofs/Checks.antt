@@ -186,9 +186,9 @@ module _ (r : Recording) where
         some = k.0.1.1.0.0;
         stations = k.0.1.1.0.1;
         count = k.0.1.1.1.0.1;
-        events = events_inside r.stations (span (header_fields r)) (used_events r) k.0.1.1.0.0 m.0;
-        lengths = l.0;
-        entries = l.1;
+        events = All-from_recursion _ _ (events_inside r.stations (span (header_fields r)) (used_events r) k.0.1.1.0.0 m.0);
+        lengths = All-from_recursion _ _ l.0;
+        entries = All-from_recursion _ _ l.1;
       }
 
   pub idle_limits : length r.events ≡ max_events → length r.lengths ≡ max_stations → length r.entries ≡ all_entries
@@ -223,8 +223,8 @@ module _ (r : Recording) where
       all_append InRange (used_tries r) _
       (all_append InRange (header_tries r) _ header
       (all_append InRange (many_tries (event_tries r.stations) event_fields (span (header_fields r)) (used_events r)) _
-      (inside_events r.stations (span (header_fields r)) (used_events r) u.events)
-      (inside_lineups _ (used_lengths r) r.entries u.lengths u.entries)))
+      (inside_events r.stations (span (header_fields r)) (used_events r) (recursion_from_All _ _ u.events))
+      (inside_lineups _ (used_lengths r) r.entries (recursion_from_All _ _ u.lengths) (recursion_from_All _ _ u.entries))))
       (inside_zeros (span (record_fields r)) (unused r)
       (all_append (λ v. v ≡ 0) (flat_map event_numbers (drop r.count r.events)) _ ze
       (all_append (λ v. v ≡ 0) (drop r.stations r.lengths) _ zn zc)))

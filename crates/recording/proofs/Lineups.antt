@@ -2,6 +2,7 @@
 use Rattle.std.proofs.Common.{◌≡◌, ℕ, ◌+◌, ◌*◌, ◌≤◌, List, [], ◌∷◌, ◌++◌, map, length, take, drop, refl, ap, ◌∙◌, append_assoc, arith, length-append, length-drop, length-take, drop-drop, take-add}
 use Rattle.std.specs.List.{AllByRecursion, flat_map}
 use Rattle.std.proofs.lemmas.List.{take_at, drop_at, length-map}
+use Rattle.std.proofs.lemmas.List.Elements.{recursion_from_All}
 use Rattle.recording.specs.declared.record.Recording.{Recording}
 use Rattle.recording.specs.Record.{FieldsOk, Limits, all_entries, parts, lineups_of, max_call, max_entries, max_events, max_stations, no_event, total, used_events, used_lengths}
 use Rattle.recording.proofs.Padded.{front_full, padded_long}
@@ -89,7 +90,7 @@ total_most (n ∷ ns) h = let a = total_most ns h.1 in let b = h.0 in omega arit
 -- all line-ups together have no more entries than there are places
 pub most_entries : (r : Recording) → FieldsOk r → total (used_lengths r) ≤ all_entries
 most_entries r o =
-    let a = total_most (used_lengths r) o.lengths in
+    let a = total_most (used_lengths r) (recursion_from_All _ _ o.lengths) in
     let b = length-take r.stations r.lengths in
     let c = o.stations in
     omega arith

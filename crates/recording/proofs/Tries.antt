@@ -2,6 +2,7 @@
 use Rattle.std.proofs.Common.{◌≡◌, ℕ, ◌+◌, ◌<◌, ◌≤◌, List, [], ◌∷◌, ◌++◌, length, get_or, take, drop, Ok, Err, Result, sym, refl, ap, ◌∙◌, arith, lit≤, drop_of_length-le, drop-drop}
 use Rattle.std.specs.List.{AllByRecursion, flat_map}
 use Rattle.std.proofs.lemmas.List.{drop_more}
+use Rattle.std.proofs.lemmas.List.Elements.{All-cons, All-nil}
 use Rattle.bits.specs.declared.told.Told.{Told}
 use Rattle.recording.specs.Layout.{Field, lineup_fields, span}
 use Rattle.recording.specs.Ranges.{FirstOut, InRange, Tried, and_then, lineup_tries, lineups_tries, many_tries, ranged, try_all}
@@ -123,7 +124,7 @@ first_by x ts t (Ok v) e k on =
       out = f.out;
       after = f.after;
       sequence = ap (λ (l : List Tried). x ∷ l) f.sequence;
-      inside = (ranged_inside _ _ _ _ _ e, f.inside);
+      inside = All-cons InRange x f.before (ranged_inside _ _ _ _ _ e) f.inside;
       outside = f.outside;
       tells = f.tells;
     }
@@ -133,7 +134,7 @@ first_by x ts t (Err u) e k on =
       out = x;
       after = ts;
       sequence = refl;
-      inside = tt;
+      inside = All-nil InRange;
       outside = λ a. not_both x.value u (sym (inside_ranged x.bit _ _ _ a.0 a.1) ∙ e);
       tells = ranged_told _ _ _ _ t (e ∙ same_err _ _ k);
     }

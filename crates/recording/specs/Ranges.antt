@@ -1,6 +1,6 @@
 -- Ranges: what a record holds, tried in the sequence of its file, and the first of it that is outside its range.
-use Rattle.std.specs.Prelude.{◌≡◌, ℕ, ◌+◌, ◌-◌, ◌≤◌, cond, ◌&&◌, List, [], ◌∷◌, ◌++◌, map, take, drop, Ok, Err, Result, MatchResult, nat_le}
-use Rattle.std.specs.List.{AllByRecursion, flat_map}
+use Rattle.std.specs.Prelude.{◌≡◌, ℕ, ◌+◌, ◌-◌, ◌≤◌, cond, ◌&&◌, List, [], ◌∷◌, ◌++◌, map, take, drop, Ok, Err, Result, MatchResult, nat_le, All}
+use Rattle.std.specs.List.{flat_map}
 use Rattle.bits.specs.Told.{told}
 use Rattle.bits.specs.declared.told.Place.TheVariants.{AtBit}
 use Rattle.bits.specs.declared.told.Told.{Told}
@@ -111,7 +111,7 @@ pub record FirstOut (ts : List Tried) (t : Told) : Type 0 where
   pub out : Tried
   pub after : List Tried
   pub sequence : ts ≡ before ++ out ∷ after
-  pub inside : AllByRecursion InRange before
+  pub inside : All InRange before
   pub outside : InRange out → ⊥
   pub tells : t ≡ told 2 (AtBit out.bit)
 

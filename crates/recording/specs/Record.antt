@@ -1,6 +1,5 @@
 -- What a record holds, which of its places are in use, and when it is within the limits.
-use Rattle.std.specs.Prelude.{◌≡◌, ℕ, ◌+◌, ◌-◌, ◌<◌, ◌≤◌, Bool, true, false, List, [], ◌∷◌, ◌++◌, length, take, drop, replicate}
-use Rattle.std.specs.List.{AllByRecursion}
+use Rattle.std.specs.Prelude.{◌≡◌, ℕ, ◌+◌, ◌-◌, ◌<◌, ◌≤◌, Bool, true, false, List, [], ◌∷◌, ◌++◌, length, take, drop, replicate, All}
 use Rattle.recording.specs.declared.record.EventKind.{EventKind}
 use Rattle.recording.specs.declared.record.EventKind.TheVariants.{PostCalled, DrawCalled, PostAnswered, DrawAnswered, DrawEmpty}
 use Rattle.recording.specs.declared.record.Event.{Event}
@@ -117,9 +116,9 @@ pub record FieldsOk (r : Recording) : Type 0 where
   pub some : 1 ≤ r.stations
   pub stations : r.stations ≤ max_stations
   pub count : r.count ≤ max_events
-  pub events : AllByRecursion (EventOk r.stations) (used_events r)
-  pub lengths : AllByRecursion (λ n. n ≤ max_entries) (used_lengths r)
-  pub entries : AllByRecursion (λ c. c ≤ max_call) (used_entries r)
+  pub events : All (EventOk r.stations) (used_events r)
+  pub lengths : All (λ n. n ≤ max_entries) (used_lengths r)
+  pub entries : All (λ c. c ≤ max_call) (used_entries r)
 
 -- a recording within the limits: each field in its range, each unused place zero
 pub record Limits (r : Recording) : Type 0 where
