@@ -16,13 +16,9 @@ const SAMPLE: [u8; 13] = [
 fn tells(rt: &impl Abort, bytes: &[u8], expected: &[u8]) -> Result<(), Fail> {
     let mut recording = Recording::zero();
     let mut line = [0; LONGEST];
-    match report(verdict_on(bytes, &mut recording), &mut line) {
-        Ok(count) => {
-            assert!(rt; &line[0..count] == expected);
-            Ok(())
-        },
-        Err(_) => Err(Fail::new("the line is too long")),
-    }
+    let count = report(judge(bytes, &mut recording), &mut line)?;
+    assert!(rt; &line[0..count] == expected);
+    Ok(())
 }
 
 #[test]
