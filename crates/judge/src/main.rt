@@ -24,7 +24,7 @@ const MAX_INPUT: usize = 8193;
 fn read_input(input: &mut impl Read, buffer: &mut [u8]) -> io::Result<usize>
     ensures { IfOk result (λ n. n ≤ length buffer.old) }
 {
-    // A loop, because each method of the library that reads on (`io::copy`, `read_exact`, `bytes`) hides an interrupted read.
+    // The library's `io::copy`, `read_exact` and `bytes` try an interrupted read again, so none of them can stand here.
     let mut filled = 0;
     while filled < buffer.len() {
         match input.read(&mut buffer[filled..])? {
@@ -35,7 +35,7 @@ fn read_input(input: &mut impl Read, buffer: &mut [u8]) -> io::Result<usize>
     Ok(filled)
 }
 
-/// Reads a file and judges its recording. No bank judges here yet, so no station has a lane, and nothing is accepted.
+/// Reads a file and judges its recording. Nothing judges by a bank here yet, so no station has a lane, and nothing is accepted.
 fn judge(bytes: &[u8], recording: &mut Recording) -> Verdict
     ensures fault { MatchResult result (λ _. ⊥) (λ fault. judge_told fault ≡ refusal (decode bytes.now)) }
     ensures line { line_of result ≡ refused_line (refusal (decode bytes.now)) }

@@ -50,7 +50,7 @@ impl Line {
     pub(crate) fn push_number(&mut self, word: &[u8], n: usize)
         requires { length self.old + length word.now + 20 ≤ room }
         ensures text { self.new ≡ self.old ++ word.now ++ decimal n }
-        ensures length { length self.new ≤ length self.old + length word.now + 20 }
+        ensures len { length self.new ≤ length self.old + length word.now + 20 }
     {
         self.push(word);
         self.push(Buffer::new().format(n).as_bytes());

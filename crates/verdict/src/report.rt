@@ -2,7 +2,7 @@ ghost use Rattle.std.specs.Prelude.{◌≡◌, ◌<◌, ◌≤◌, ◌++◌, len
 ghost use Rattle.bits.specs.Told.{told as tells};
 ghost use Rattle.bits.specs.declared.told.Place.TheVariants.{Needs};
 ghost use Rattle.verdict.specs.Faults.{report_told};
-ghost use Rattle.verdict.specs.Report.{accepted_line, word_of_kind, line_of, words_of_place, refused_line};
+ghost use Rattle.verdict.specs.Report.{accepted_line, word_of_kind, line_of, refused_line};
 ghost use Rattle.verdict.specs.Room.{room};
 
 use crate::fault::ReportFault;
@@ -83,7 +83,7 @@ pub fn report(verdict: Verdict, into: &mut [u8]) -> Result<usize, ReportFault>
     if into.len() < needed {
         return Err(ReportFault::Short { needed });
     }
-    into[0..needed].copy_from_slice(text);
+    into[..needed].copy_from_slice(text);
     Ok(needed)
 }
 
