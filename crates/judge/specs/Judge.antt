@@ -1,4 +1,4 @@
--- What becomes of a file, as long as there is no bank.
+-- What becomes of a file while nothing judges by a bank here: no station has a lane.
 use Rattle.std.specs.Prelude.{Ok, Err, Result}
 use Rattle.bits.specs.declared.told.Place.TheVariants.{AtEntry}
 use Rattle.bits.specs.declared.told.Told.{Told}

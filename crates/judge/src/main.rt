@@ -24,47 +24,35 @@ const MAX_INPUT: usize = 8193;
 fn read_input(input: &mut impl Read, buffer: &mut [u8]) -> io::Result<usize>
     ensures { IfOk result (λ n. n ≤ length buffer.old) }
 {
+    // The library's `io::copy`, `read_exact` and `bytes` try an interrupted read again, so none of them can stand here.
     let mut filled = 0;
     while filled < buffer.len() {
-        let count = input.read(&mut buffer[filled..])?;
-        if count == 0 {
-            break;
+        match input.read(&mut buffer[filled..])? {
+            0 => break,
+            count => filled += count,
         }
-        filled += count;
     }
     Ok(filled)
 }
 
-/// Reads a file and judges its recording. There is no bank yet, so no station has a lane, and nothing is accepted.
-fn judge(bytes: &[u8], recording: &mut Recording) -> Result<Verdict, JudgeFault>
-    ensures verdict { MatchResult result (λ _. ⊥) (λ fault. judge_told fault ≡ refusal (decode bytes.now)) }
+/// Reads a file and judges its recording. Nothing judges by a bank here yet, so no station has a lane, and nothing is accepted.
+fn judge(bytes: &[u8], recording: &mut Recording) -> Verdict
+    ensures fault { MatchResult result (λ _. ⊥) (λ fault. judge_told fault ≡ refusal (decode bytes.now)) }
+    ensures line { line_of result ≡ refused_line (refusal (decode bytes.now)) }
     ensures recording { recording.new ≡ record_left (decode bytes.now) }
 {
     read(bytes, recording)?;
     Err(JudgeFault::NoLane { station: 0 })
 }
 
-/// The verdict on a file.
-fn verdict_on(bytes: &[u8], recording: &mut Recording) -> Verdict
-    ensures verdict { line_of result ≡ refused_line (refusal (decode bytes.now)) }
-    ensures recording { recording.new ≡ record_left (decode bytes.now) }
-{
-    match judge(bytes, recording) {
-        Ok(verdict) => verdict,
-        Err(fault) => Verdict::Refused(fault),
-    }
-}
-
 fn main(rt: HostRuntime) -> io::Result<()> {
     let mut input = [0; MAX_INPUT];
     let size = read_input(&mut rt.stdin(), &mut input)?;
     let mut recording = Recording::zero();
-    let verdict = verdict_on(&input[0..size], &mut recording);
+    let verdict = judge(&input[..size], &mut recording);
     let mut line = [0; LONGEST];
-    match report(verdict, &mut line) {
-        Ok(count) => rt.stdout().write_all(&line[0..count]),
-        Err(_) => unreachable(),
-    }
+    let count = report(verdict, &mut line).unwrap();
+    rt.stdout().write_all(&line[..count])
 }
 
 #[cfg(test)]

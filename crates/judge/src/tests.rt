@@ -16,13 +16,9 @@ const SAMPLE: [u8; 13] = [
 fn tells(rt: &impl Abort, bytes: &[u8], expected: &[u8]) -> Result<(), Fail> {
     let mut recording = Recording::zero();
     let mut line = [0; LONGEST];
-    match report(verdict_on(bytes, &mut recording), &mut line) {
-        Ok(count) => {
-            assert!(rt; &line[0..count] == expected);
-            Ok(())
-        },
-        Err(_) => Err(Fail::new("the line is too long")),
-    }
+    let count = report(judge(bytes, &mut recording), &mut line)?;
+    assert_eq!(rt; &line[..count], expected);
+    Ok(())
 }
 
 #[test]
@@ -67,11 +63,8 @@ fn sample() -> Recording {
 #[test]
 fn writes_the_sample(rt: HostRuntime) -> Result<(), Fail> {
     let mut buffer = [0xFF; 15];
-    match write(&sample(), &mut buffer) {
-        Ok(size) => assert_eq!(rt; size, 13),
-        Err(_) => return Err(Fail::new("it is refused")),
-    }
-    assert!(rt; &buffer[0..13] == SAMPLE.as_slice());
+    assert_eq!(rt; write(&sample(), &mut buffer)?, 13);
+    assert_eq!(rt; &buffer[..13], SAMPLE.as_slice());
     assert_eq!(rt; buffer[13], 0xFF);
     assert_eq!(rt; buffer[14], 0xFF);
     Ok(())
@@ -80,12 +73,11 @@ fn writes_the_sample(rt: HostRuntime) -> Result<(), Fail> {
 /// What writing into 12 bytes is refused by; they are left as they were.
 fn refusal(rt: &impl Abort, recording: &Recording) -> Result<Told, Fail> {
     let mut buffer = [0xFF; 12];
-    let result = write(recording, &mut buffer);
-    assert!(rt; buffer == [0xFF; 12]);
-    match result {
-        Ok(_) => Err(Fail::new("it is written")),
-        Err(fault) => Ok(fault.told()),
-    }
+    let Err(fault) = write(recording, &mut buffer) else {
+        return Err(Fail::new("it is written"));
+    };
+    assert_eq!(rt; buffer, [0xFF; 12]);
+    Ok(fault.told())
 }
 
 /// Checks that a record is refused by 2 at that bit.
@@ -138,11 +130,9 @@ fn tells_how_long_the_file_is(rt: HostRuntime) -> Result<(), Fail> {
 fn writes_back_what_it_read(rt: HostRuntime) -> Result<(), Fail> {
     let mut recording = Recording::zero();
     let mut buffer = [0xFF; 13];
-    match read_then_write(&SAMPLE, &mut recording, &mut buffer) {
-        Ok(Ok(size)) => assert_eq!(rt; size, 13),
-        _ => return Err(Fail::new("it is refused")),
-    }
-    assert!(rt; buffer == SAMPLE);
+    let size = read_then_write(&SAMPLE, &mut recording, &mut buffer)??;
+    assert_eq!(rt; size, 13);
+    assert_eq!(rt; buffer, SAMPLE);
     Ok(())
 }
 

@@ -1,4 +1,3 @@
 pub mod Faults
 pub mod Room
-pub mod Lines
 pub mod Report

@@ -2,13 +2,12 @@ ghost use Rattle.std.specs.Prelude.{◌≡◌, ◌<◌, ◌≤◌, ◌++◌, len
 ghost use Rattle.bits.specs.Told.{told as tells};
 ghost use Rattle.bits.specs.declared.told.Place.TheVariants.{Needs};
 ghost use Rattle.verdict.specs.Faults.{report_told};
-ghost use Rattle.verdict.specs.Lines.{text_of};
-ghost use Rattle.verdict.specs.Report.{accepted_line, word_of_kind, line_of, words_of_place, refused_line};
+ghost use Rattle.verdict.specs.Report.{accepted_line, word_of_kind, line_of, refused_line};
 ghost use Rattle.verdict.specs.Room.{room};
 
 use crate::fault::ReportFault;
 use crate::line::{Line, ROOM};
-use crate::verdict::Verdict;
+use crate::verdict::{Accepted, Verdict};
 use bits::told::{Place, Told};
 
 /// How many bytes are enough for any line.
@@ -27,73 +26,44 @@ fn kind_word(code: u16) -> &'static [u8]
 }
 
 /// The line of a verdict that accepts.
-fn accepted(code: u16, stations: usize, calls: usize) -> Line
-    ensures { text_of result ≡ accepted_line code stations calls }
+fn acceptance(accepted: Accepted) -> Line
+    ensures { result ≡ accepted_line accepted }
 {
-    let mut line = Line::empty();
+    let mut line = Line::new();
     line.push(b"accepted ");
-    line.push(kind_word(code));
-    line.push(b" stations ");
-    line.push_number(stations);
-    line.push(b" calls ");
-    line.push_number(calls);
+    line.push(kind_word(accepted.code));
+    line.push_number(b" stations ", accepted.stations);
+    line.push_number(b" calls ", accepted.calls);
     line.push(b"\n");
     line
 }
 
-/// The words for a place, with a blank before them.
-fn place_words(place: Place) -> Line
-    ensures text { text_of result ≡ words_of_place place }
-    ensures len { result.len ≤ 60 }
-{
-    let mut line = Line::empty();
-    match place {
-        Place::AtBit(bit) => {
-            line.push(b" bit ");
-            line.push_number(bit);
-        }
-        Place::AtEvent(event) => {
-            line.push(b" event ");
-            line.push_number(event);
-        }
-        Place::AtEntry { station, entry } => {
-            line.push(b" station ");
-            line.push_number(station);
-            line.push(b" entry ");
-            line.push_number(entry);
-        }
-        Place::Needs(size) => {
-            line.push(b" needs ");
-            line.push_number(size);
-        }
-    }
-    line
-}
-
 /// The line of a verdict that refuses.
-fn refused(told: Told) -> Line
-    ensures { text_of result ≡ refused_line told }
+fn refusal(told: Told) -> Line
+    ensures { result ≡ refused_line told }
 {
-    let mut line = Line::empty();
-    line.push(b"refused ");
-    line.push_number(told.number);
-    let place = place_words(told.place);
-    line.push(place.text());
+    let mut line = Line::new();
+    line.push_number(b"refused ", told.number);
+    match told.place {
+        Place::AtBit(bit) => line.push_number(b" bit ", bit),
+        Place::AtEvent(event) => line.push_number(b" event ", event),
+        Place::AtEntry { station, entry } => {
+            line.push_number(b" station ", station);
+            line.push_number(b" entry ", entry);
+        }
+        Place::Needs(size) => line.push_number(b" needs ", size),
+    }
     line.push(b"\n");
     line
 }
 
 /// The line of a verdict.
 fn compose(verdict: Verdict) -> Line
-    ensures { text_of result ≡ line_of verdict }
+    ensures { result ≡ line_of verdict }
 {
     match verdict {
-        Verdict::Accepted {
-            code,
-            stations,
-            calls,
-        } => accepted(code, stations, calls),
-        Verdict::Refused(fault) => refused(fault.told()),
+        Ok(accepted) => acceptance(accepted),
+        Err(fault) => refusal(fault.told()),
     }
 }
 
@@ -113,7 +83,7 @@ pub fn report(verdict: Verdict, into: &mut [u8]) -> Result<usize, ReportFault>
     if into.len() < needed {
         return Err(ReportFault::Short { needed });
     }
-    into[0..needed].copy_from_slice(text);
+    into[..needed].copy_from_slice(text);
     Ok(needed)
 }
 
@@ -125,11 +95,11 @@ mod tests {
 
     #[test]
     fn accepts(rt: HostRuntime) -> Result<(), Fail> {
-        let verdict = Verdict::Accepted {
+        let verdict = Ok(Accepted {
             code: 1,
             stations: 1,
             calls: 2,
-        };
+        });
         let mut buffer = [b'.'; 36];
         assert_eq!(rt; report(verdict, &mut buffer)?, 34);
         assert_eq!(rt; buffer, *b"accepted queue stations 1 calls 2\n..");
@@ -138,7 +108,7 @@ mod tests {
 
     #[test]
     fn refuses(rt: HostRuntime) -> Result<(), Fail> {
-        let verdict = Verdict::Refused(JudgeFault::Missing {
+        let verdict = Err(JudgeFault::Missing {
             station: 7,
             length: 510,
         });
@@ -150,7 +120,7 @@ mod tests {
 
     #[test]
     fn leaves_a_short_buffer(rt: HostRuntime) -> Result<(), Fail> {
-        let verdict = Verdict::Refused(JudgeFault::Busy { event: 0 });
+        let verdict = Err(JudgeFault::Busy { event: 0 });
         let mut buffer = [b'.'; 17];
         match report(verdict, &mut buffer) {
             Err(ReportFault::Short { needed }) => assert_eq!(rt; needed, 18),

@@ -1,14 +1,15 @@
 use crate::fault::JudgeFault;
 
-/// A verdict on a recording, as a report tells it.
-#[derive(Clone, Copy)]
-pub enum Verdict {
-    /// Accepted: the code of its kind of lane, its number of stations and of calls.
-    Accepted {
-        code: u16,
-        stations: usize,
-        calls: usize,
-    },
-    /// Refused for this fault, the first met.
-    Refused(JudgeFault),
+/// What a report tells of a recording that is accepted.
+#[derive(Clone, Copy, Debug, PartialEq, Eq, Hash)]
+pub struct Accepted {
+    /// The code of its kind of lane.
+    pub code: u16,
+    /// Its number of stations.
+    pub stations: usize,
+    /// Its number of calls.
+    pub calls: usize,
 }
+
+/// A verdict on a recording, as a report tells it: accepted, or refused for the first fault met.
+pub type Verdict = Result<Accepted, JudgeFault>;
