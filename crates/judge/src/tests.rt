@@ -27,10 +27,10 @@ fn reads_the_sample(rt: HostRuntime) {
     assert!(rt; read(&SAMPLE, &mut recording).is_ok());
     assert!(rt; recording.code == 1 && recording.stations == 1 && recording.count == 4);
     let events = &recording.events;
-    assert!(rt; events[0].kind.number() == 0 && events[0].station == 0 && events[0].order == 5);
-    assert!(rt; events[1].kind.number() == 2 && events[1].station == 0 && events[1].order == 0);
-    assert!(rt; events[2].kind.number() == 1 && events[2].station == 0 && events[2].order == 0);
-    assert!(rt; events[3].kind.number() == 3 && events[3].station == 0 && events[3].order == 5);
+    assert!(rt; u16::from(events[0].kind) == 0 && events[0].station == 0 && events[0].order == 5);
+    assert!(rt; u16::from(events[1].kind) == 2 && events[1].station == 0 && events[1].order == 0);
+    assert!(rt; u16::from(events[2].kind) == 1 && events[2].station == 0 && events[2].order == 0);
+    assert!(rt; u16::from(events[3].kind) == 3 && events[3].station == 0 && events[3].order == 5);
     assert!(rt;
         recording.lengths[0] == 2 && recording.entries[0] == 0 && recording.entries[1] == 1
     );
@@ -77,20 +77,13 @@ fn refusal(rt: &impl Abort, recording: &Recording) -> Result<Told, Fail> {
         return Err(Fail::new("it is written"));
     };
     assert_eq!(rt; buffer, [0xFF; 12]);
-    Ok(fault.told())
+    Ok(fault.into())
 }
 
 /// Checks that a record is refused by 2 at that bit.
 fn outside(rt: &impl Abort, recording: &Recording, bit: usize) -> Result<(), Fail> {
-    let told = refusal(rt, recording)?;
-    assert_eq!(rt; told.number, 2);
-    match told.place {
-        Place::AtBit(place) => {
-            assert_eq!(rt; place, bit);
-            Ok(())
-        },
-        _ => Err(Fail::new("it is not told at a bit")),
-    }
+    assert_eq!(rt; refusal(rt, recording)?, Told::new(2, Place::AtBit(bit)));
+    Ok(())
 }
 
 #[test]
@@ -115,15 +108,8 @@ fn tells_what_a_record_has_out_of_range(rt: HostRuntime) -> Result<(), Fail> {
 
 #[test]
 fn tells_how_long_the_file_is(rt: HostRuntime) -> Result<(), Fail> {
-    let told = refusal(&rt, &sample())?;
-    assert_eq!(rt; told.number, 17);
-    match told.place {
-        Place::Needs(size) => {
-            assert_eq!(rt; size, 13);
-            Ok(())
-        },
-        _ => Err(Fail::new("it is not told as a size")),
-    }
+    assert_eq!(rt; refusal(&rt, &sample())?, Told::new(17, Place::Needs(13)));
+    Ok(())
 }
 
 #[test]

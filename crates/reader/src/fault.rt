@@ -7,7 +7,7 @@ use bits::told::{Place, Told};
 use recording::fault::FieldFault;
 
 /// A fault of a file.
-#[derive(Clone, Copy, Debug)]
+#[derive(Clone, Copy, Debug, PartialEq, Eq, Hash)]
 pub enum ReadFault {
     /// The bytes end inside a field.
     Bit(BitFault),
@@ -33,14 +33,14 @@ impl From<FieldFault> for ReadFault {
     }
 }
 
-impl ReadFault {
+impl From<ReadFault> for Told {
+    ghost from_gives = { λ fault told. told ≡ read_told fault };
+
     /// The fault's number and place.
-    pub fn told(self) -> Told
-        ensures { result ≡ read_told self }
-    {
-        match self {
-            ReadFault::Bit(inner) => inner.told(),
-            ReadFault::Field(inner) => inner.told(),
+    fn from(fault: ReadFault) -> Told {
+        match fault {
+            ReadFault::Bit(inner) => inner.into(),
+            ReadFault::Field(inner) => inner.into(),
             ReadFault::Filling { bit } => Told::new(3, Place::AtBit(bit)),
         }
     }

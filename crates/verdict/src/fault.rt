@@ -8,7 +8,7 @@ use bits::told::{Place, Told};
 use reader::fault::ReadFault;
 
 /// A fault for which a recording is refused.
-#[derive(Clone, Copy, Debug)]
+#[derive(Clone, Copy, Debug, PartialEq, Eq, Hash)]
 pub enum JudgeFault {
     /// The file could not be read.
     Read(ReadFault),
@@ -62,13 +62,13 @@ fn at_entry(number: usize, station: usize, entry: usize) -> Told
     Told::new(number, Place::AtEntry { station, entry })
 }
 
-impl JudgeFault {
+impl From<JudgeFault> for Told {
+    ghost from_gives = { λ fault told. told ≡ judge_told fault };
+
     /// The fault's number and place.
-    pub fn told(self) -> Told
-        ensures { result ≡ judge_told self }
-    {
-        match self {
-            JudgeFault::Read(inner) => inner.told(),
+    fn from(fault: JudgeFault) -> Told {
+        match fault {
+            JudgeFault::Read(inner) => inner.into(),
             JudgeFault::Busy { event } => at_event(4, event),
             JudgeFault::Unmatched { event } => at_event(5, event),
             JudgeFault::PostedBefore { event } => at_event(6, event),
@@ -87,18 +87,18 @@ impl JudgeFault {
 }
 
 /// A fault of a report.
-#[derive(Clone, Copy, Debug)]
+#[derive(Clone, Copy, Debug, PartialEq, Eq, Hash)]
 pub enum ReportFault {
     /// The buffer is too short for the line, whose size is told.
     Short { needed: usize },
 }
 
-impl ReportFault {
+impl From<ReportFault> for Told {
+    ghost from_gives = { λ fault told. told ≡ report_told fault };
+
     /// The fault's number and place.
-    pub fn told(self) -> Told
-        ensures { result ≡ report_told self }
-    {
-        match self {
+    fn from(fault: ReportFault) -> Told {
+        match fault {
             ReportFault::Short { needed } => Told::new(17, Place::Needs(needed)),
         }
     }

@@ -9,19 +9,20 @@ use crate::fault::ReportFault;
 use crate::line::{Line, ROOM};
 use crate::verdict::{Accepted, Verdict};
 use bits::told::{Place, Told};
+use recording::lane::{LaneKind, OtherLane};
 
 /// How many bytes are enough for any line.
 pub const LONGEST: usize = ROOM;
 
-/// The word for a kind of lane.
+/// The word for the kind of lane that a code names.
 fn kind_word(code: u16) -> &'static [u8]
     ensures { result.now ≡ word_of_kind code }
 {
-    match code {
-        1 => b"queue",
-        2 => b"stack",
-        3 => b"pool",
-        _ => b"other",
+    match LaneKind::try_from(code) {
+        Ok(LaneKind::Queue) => b"queue",
+        Ok(LaneKind::Stack) => b"stack",
+        Ok(LaneKind::Pool) => b"pool",
+        Err(OtherLane) => b"other",
     }
 }
 
@@ -63,7 +64,7 @@ fn compose(verdict: Verdict) -> Line
 {
     match verdict {
         Ok(accepted) => acceptance(accepted),
-        Err(fault) => refusal(fault.told()),
+        Err(fault) => refusal(fault.into()),
     }
 }
 
@@ -119,14 +120,10 @@ mod tests {
     }
 
     #[test]
-    fn leaves_a_short_buffer(rt: HostRuntime) -> Result<(), Fail> {
+    fn leaves_a_short_buffer(rt: HostRuntime) {
         let verdict = Err(JudgeFault::Busy { event: 0 });
         let mut buffer = [b'.'; 17];
-        match report(verdict, &mut buffer) {
-            Err(ReportFault::Short { needed }) => assert_eq!(rt; needed, 18),
-            Ok(_) => return Err(Fail::new("it does not fit")),
-        }
+        assert_eq!(rt; report(verdict, &mut buffer), Err(ReportFault::Short { needed: 18 }));
         assert_eq!(rt; buffer, [b'.'; 17]);
-        Ok(())
     }
 }

@@ -6,7 +6,7 @@ use bits::told::{Place, Told};
 use recording::fault::FieldFault;
 
 /// A fault of a writing.
-#[derive(Clone, Copy, Debug)]
+#[derive(Clone, Copy, Debug, PartialEq, Eq, Hash)]
 pub enum WriteFault {
     /// The record is not within the limits.
     Field(FieldFault),
@@ -22,13 +22,13 @@ impl From<FieldFault> for WriteFault {
     }
 }
 
-impl WriteFault {
+impl From<WriteFault> for Told {
+    ghost from_gives = { λ fault told. told ≡ write_told fault };
+
     /// The fault's number and place.
-    pub fn told(self) -> Told
-        ensures { result ≡ write_told self }
-    {
-        match self {
-            WriteFault::Field(inner) => inner.told(),
+    fn from(fault: WriteFault) -> Told {
+        match fault {
+            WriteFault::Field(inner) => inner.into(),
             WriteFault::Short { needed } => Told::new(17, Place::Needs(needed)),
         }
     }
