@@ -1,7 +1,11 @@
 -- Lists of orders: what is on them once an order is added or taken off.
 use Rattle.std.proofs.Common.{◌≡◌, ℕ, ◌+◌, ◌≤◌, Bool, true, false, cond, not, ◌&&◌, ◌||◌, eqb, List, [], ◌∷◌, ◌++◌, length, filter, sym, refl, ap, ◌∙◌, ⊎_elim, arith}
+use Rattle.std.specs.List.{list_any}
+use Rattle.std.proofs.Math.Bool.{and_comm, or_assoc}
 use Rattle.std.proofs.lemmas.List.Elements.{filter-append}
+use Rattle.std.proofs.lemmas.List.Filters.{length-filter_both}
 use Rattle.std.proofs.lemmas.List.{length-append}
+use Rattle.std.proofs.lemmas.Map.Views.{any-filter_same}
 use Rattle.std.proofs.lemmas.Bool.{and_from, and_left, and_parts, and_right, cond-false, cond-true, eq-eqb, eqb-false, eqb-true, false≢true, le-leb, ne_eqb, not_from_false, not_from_true, not-true, or_cases, or_from, or_left, or_parts, or_right}
 use Rattle.recording.specs.Record.{max_order}
 use Rattle.bank.specs.Orders.{holds, without, proper}
@@ -9,15 +13,16 @@ use Rattle.bank.specs.Orders.{holds, without, proper}
 eqb_sym : (a b : ℕ) → eqb a b ≡ false → eqb b a ≡ false
 eqb_sym a b e = ne_eqb b a (λ q. eqb-false a b e (sym q))
 
--- ---- an order added
+-- what a slice's `contains` answers
+pub any_holds : (xs : List ℕ) (x : ℕ) → list_any (λ y. eqb y x) xs ≡ holds xs x
+any_holds [] x = refl
+any_holds (y ∷ ys) x = ap (λ b. eqb y x || b) (any_holds ys x)
 
-or_assoc : (a b c : Bool) → (a || (b || c)) ≡ ((a || b) || c)
-or_assoc true b c = refl
-or_assoc false b c = refl
+-- ---- an order added
 
 pub holds_append : (xs ys : List ℕ) (x : ℕ) → holds (xs ++ ys) x ≡ (holds xs x || holds ys x)
 holds_append [] ys x = refl
-holds_append (z ∷ zs) ys x = ap (λ t. eqb z x || t) (holds_append zs ys x) ∙ or_assoc (eqb z x) (holds zs x) (holds ys x)
+holds_append (z ∷ zs) ys x = ap (λ t. eqb z x || t) (holds_append zs ys x) ∙ sym (or_assoc (eqb z x) (holds zs x) (holds ys x))
 
 -- an order that was added is held
 pub holds_push : (xs : List ℕ) (x : ℕ) → holds (xs ++ x ∷ []) x ≡ true
@@ -35,26 +40,13 @@ proper_push (y ∷ ys) x p h l =
 
 -- ---- an order taken off
 
--- one element of a filtered list: e says that it is the one that is looked for, h that the rest has that one, q whether
--- that one passes, t whether this element passes
-kept_one : (e h q t : Bool) → (e ≡ true → t ≡ q) → cond t (e || (h && q)) (h && q) ≡ ((e || h) && q)
-kept_one true h true t same = rw (same refl)
-kept_one true true false t same = rw (same refl)
-kept_one true false false t same = rw (same refl)
-kept_one false h q true same = refl
-kept_one false h q false same = refl
-
-holds_cond : (t : Bool) (z : ℕ) (zs : List ℕ) (y : ℕ) → holds (cond t (z ∷ zs) zs) y ≡ cond t (eqb z y || holds zs y) (holds zs y)
-holds_cond true z zs y = refl
-holds_cond false z zs y = refl
-
 -- a filtered list has what the list has and passes
 holds_kept : (p : ℕ → Bool) (xs : List ℕ) (y : ℕ) → holds (filter p xs) y ≡ (holds xs y && p y)
-holds_kept p [] y = refl
-holds_kept p (z ∷ zs) y =
-    holds_cond (p z) z (filter p zs) y
-    ∙ ap (λ h. cond (p z) (eqb z y || h) h) (holds_kept p zs y)
-    ∙ kept_one (eqb z y) (holds zs y) (p y) (p z) (λ e. ap p (eqb-true z y e))
+holds_kept p xs y =
+    sym (any_holds (filter p xs) y)
+    ∙ any-filter_same (λ z. eqb z y) p (p y) (λ z e. ap p (eqb-true z y e)) xs
+    ∙ and_comm (p y) (list_any (λ z. eqb z y) xs)
+    ∙ ap (λ b. b && p y) (any_holds xs y)
 
 -- an order that was taken off is gone, and the others are still there
 pub holds_without : (xs : List ℕ) (x y : ℕ) → holds (without xs x) y ≡ (holds xs y && not (eqb y x))
@@ -98,10 +90,9 @@ without_around before after x p =
     filter-append (λ y. not (eqb y x)) before (x ∷ after) ∙ ap (λ ys. ys ++ without (x ∷ after) x) (without_none before x o.0) ∙ ap (λ ys. before ++ ys) here
 
 pub length_without_le : (xs : List ℕ) (x : ℕ) → length (without xs x) ≤ length xs
-length_without_le [] x = omega arith
-length_without_le (z ∷ zs) x =
-    let rest = length_without_le zs x in
-    elim (eqb z x) as (λ t. length (cond (not t) (z ∷ without zs x) (without zs x)) ≤ length (z ∷ zs)) [ true ↦ omega arith | false ↦ omega arith ]
+length_without_le xs x =
+    let stays : ℕ → Bool = λ y. not (eqb y x) in
+    omega (arith, length-filter_both stays (λ y. not (stays y)) (λ _. refl) xs)
 
 -- where an order stands on a list
 pub record Around (xs : List ℕ) (x : ℕ) : Type 0 where
