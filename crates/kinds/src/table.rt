@@ -14,6 +14,7 @@ use recording::record::MAX_ORDER;
 #[derive(Drop)]
 pub(crate) struct Table {
     lanes: ArrayVec<Lane, MAX_LANES>,
+    // Not the invariant of a model: the law of `Bank` is proved from this field, which a model's value would not show.
     ghost sound: { IsTable lanes.items },
 }
 

@@ -3,7 +3,6 @@ use Rattle.std.specs.Prelude.{slice_set}
 use Rattle.std.proofs.lemmas.Grind.{common_steps}
 use Rattle.bank.specs.Model.{taken_out}
 use Rattle.bank.proofs.Models.{sound_out}
-use Rattle.kinds.specs.Tables.{deepest}
 use Rattle.kinds.proofs.table.Table.remove.Goals as goal
 
 pub invariant_of-self : goal.invariant_of-self
