@@ -3,7 +3,7 @@ use Rattle.std.proofs.Common.{◌≡◌, ℕ, ◌<◌, ◌≤◌, true, false, L
 use Rattle.std.specs.List.{All}
 use Rattle.std.proofs.lemmas.List.Elements.{All-get_or, All-replicate, All-set}
 use Rattle.std.proofs.lemmas.List.{get_or_past, get_or-set_same, length_push, length-replicate, length-set}
-use Rattle.std.proofs.lemmas.Bool.{and_from, and_parts, cases_lt, le-leb, leb-true, lt-ltb, ltb-true, not_from_false, not-true}
+use Rattle.std.proofs.lemmas.Bool.{cases_lt}
 use Rattle.recording.specs.Record.{max_order}
 use Rattle.bank.specs.Orders.{holds, proper}
 use Rattle.bank.specs.Model.{Model, Sound, after_offer, after_out, after_put, can_put, cleared, empty_bank, holding, lane_of, lanes_of, max_depth, max_lanes}
@@ -41,15 +41,10 @@ pub record Fits (m : Model) (l x : ℕ) : Type 0 where
   pub room : length (lane_of m.held l) < m.depth
 
 pub put_fits : (m : Model) (l x : ℕ) → can_put m l x ≡ true → Fits m l x
-put_fits m l x can =
-    let a = and_parts _ _ can in
-    let b = and_parts _ _ a.1 in
-    let c = and_parts _ _ b.1 in
-    record { there = ltb-true _ _ a.0; order = leb-true _ _ b.0; fresh = not-true _ c.0; room = ltb-true _ _ c.1 }
+put_fits m l x can = record { there = grind arith; order = grind arith; fresh = grind arith; room = grind arith }
 
 pub fits_put : (m : Model) (l x : ℕ) → Fits m l x → can_put m l x ≡ true
-fits_put m l x f =
-    and_from _ _ (lt-ltb _ _ f.there) (and_from _ _ (le-leb _ _ f.order) (and_from _ _ (not_from_false _ f.fresh) (lt-ltb _ _ f.room)))
+fits_put m l x f = grind arith
 
 module _ {m : Model} {l x : ℕ} (f : Fits m l x) where
   -- the order stands last in its lane

@@ -1,6 +1,5 @@
 -- The two ends of a list of held orders.
-use Rattle.std.proofs.Common.{◌≡◌, ℕ, suc, ◌-◌, true, List, [], ◌∷◌, length, Some, slice_get, refl, ap, ◌∙◌, sub-one}
-use Rattle.std.proofs.lemmas.Bool.{and_from, eq-eqb, or_left, or_right}
+use Rattle.std.proofs.Common.{arith, ◌≡◌, ℕ, suc, ◌-◌, true, List, [], ◌∷◌, length, Some, slice_get, refl, ap, ◌∙◌, sub-one}
 use Rattle.bank.specs.Orders.{holds}
 use Rattle.bank.specs.Rules.{is_that, newest_of, oldest_of, only_newest, only_oldest}
 use Rattle.kinds.specs.Picks.{Picks}
@@ -19,15 +18,15 @@ newest_get (x ∷ xs) = ap (slice_get (x ∷ xs)) (sub-one (suc (length xs))) �
 
 -- the only one that may leave is picked, where it is held
 picks_that : (xs : List ℕ) (x : ℕ) → holds xs x ≡ true → Picks (λ _. is_that (Some x)) xs (Some x)
-picks_that xs x h = and_from _ _ h (eq-eqb x x refl)
+picks_that xs x h = grind arith
 
 pub picks_oldest : (xs : List ℕ) → Picks only_oldest xs (oldest_of xs)
 picks_oldest [] = refl
-picks_oldest (x ∷ xs) = picks_that (x ∷ xs) x (or_left _ _ (eq-eqb x x refl))
+picks_oldest (x ∷ xs) = grind arith
 
 newest_held : (x : ℕ) (xs : List ℕ) → (y : ℕ) × (newest_of (x ∷ xs) ≡ Some y) × (holds (x ∷ xs) y ≡ true)
-newest_held x [] = (x, refl, or_left _ _ (eq-eqb x x refl))
-newest_held x (y ∷ ys) = let r = newest_held y ys in (r.0, r.1, or_right _ _ r.2)
+newest_held x [] = (x, refl, grind arith)
+newest_held x (y ∷ ys) = let r = newest_held y ys in (r.0, r.1, grind (arith, r.2))
 
 pub picks_newest : (xs : List ℕ) → Picks only_newest xs (newest_of xs)
 picks_newest [] = refl

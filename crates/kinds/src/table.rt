@@ -10,7 +10,7 @@ use arrayvec::ArrayVec;
 use bank::limits::{MAX_DEPTH, MAX_LANES};
 use recording::record::MAX_ORDER;
 
-/// The lanes of a bank.
+/// The lanes of a bank, at least one.
 #[derive(Drop)]
 pub(crate) struct Table {
     lanes: ArrayVec<Lane, MAX_LANES>,
