@@ -1,5 +1,5 @@
 -- The two ends of a list of held orders.
-use Rattle.std.proofs.Common.{arith, ◌≡◌, ℕ, suc, ◌-◌, true, List, [], ◌∷◌, length, Some, slice_get, refl, ap, ◌∙◌, sub-one}
+use Rattle.std.proofs.Common.{◌≡◌, ℕ, suc, ◌-◌, true, List, [], ◌∷◌, length, slice_get, Some, refl, ap, ◌∙◌, sub-one, arith}
 use Rattle.bank.specs.Orders.{holds}
 use Rattle.bank.specs.Rules.{is_that, newest_of, oldest_of, only_newest, only_oldest}
 use Rattle.kinds.specs.Picks.{Picks}
