@@ -9,7 +9,7 @@ use crate::table::Table;
 use bank::bank::Bank;
 use bank::limits;
 
-/// A bank whose lanes are arrays of cells, as deep as a bank may be, all of one kind.
+/// A bank whose lanes lie in arrays of a fixed size, as deep as a bank may be, all of one kind.
 #[derive(Drop)]
 pub struct ArrayBank<K> {
     table: Table,
