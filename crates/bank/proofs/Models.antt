@@ -1,16 +1,17 @@
 -- What a bank keeps, whatever is put in or taken out.
-use Rattle.std.proofs.Common.{◌≡◌, ℕ, ◌<◌, ◌≤◌, true, false, List, [], ◌∷◌, ◌++◌, length, set, replicate, Some, None, Option, refl, ap, ◌∙◌, ⊎_elim, arith}
-use Rattle.std.specs.List.{AllByRecursion}
-use Rattle.std.proofs.ByRecursion.{All-from_get_or, All-get_or, All-set}
-use Rattle.std.proofs.lemmas.List.{get_or_past, get_or-replicate, get_or-set_same, length_push, length-replicate, length-set}
-use Rattle.std.proofs.lemmas.Bool.{and_from, and_parts, cases_lt, le-leb, leb-true, lt-ltb, ltb-true, not_from_false, not-true}
+use Rattle.std.proofs.Common.{◌≡◌, ℕ, ◌<◌, ◌≤◌, true, false, List, [], ◌∷◌, ◌++◌, length, set, Some, None, Option, refl, ap, ◌∙◌, ⊎_elim, arith}
+use Rattle.std.specs.List.{All}
+use Rattle.std.proofs.lemmas.List.Elements.{All-get_or, All-replicate, All-set}
+use Rattle.std.proofs.lemmas.List.{get_or_past, get_or-set_same, length_push, length-replicate, length-set}
+use Rattle.std.proofs.lemmas.Bool.{cases_lt}
 use Rattle.recording.specs.Record.{max_order}
 use Rattle.bank.specs.Orders.{holds, proper}
-use Rattle.bank.specs.Model.{Model, Sound, after_offer, after_out, after_put, can_put, cleared, holding, lane_of, lanes_of}
+use Rattle.bank.specs.Model.{Model, Sound, after_offer, after_out, after_put, can_put, cleared, empty_bank, holding, lane_of, lanes_of, max_depth, max_lanes}
+use Rattle.bank.specs.Rules.{Rule}
 use Rattle.bank.proofs.Orders.{holds_push, length_without_le, proper_push, proper_without}
 
 -- what holds of every lane, and of an empty one, holds of any, there or not
-lane_all : (P : List ℕ → Type 0) → P [] → (h : List (List ℕ)) (l : ℕ) → AllByRecursion P h → P (lane_of h l)
+lane_all : (P : List ℕ → Type 0) → P [] → (h : List (List ℕ)) (l : ℕ) → All P h → P (lane_of h l)
 lane_all P none h l all = ⊎_elim (λ there. All-get_or P h l [] there all) (λ past. rw (get_or_past h l [] past) none) (cases_lt l (length h))
 
 pub lane_proper : {m : Model} → Sound m → (l : ℕ) → proper (lane_of m.held l) ≡ true
@@ -40,15 +41,10 @@ pub record Fits (m : Model) (l x : ℕ) : Type 0 where
   pub room : length (lane_of m.held l) < m.depth
 
 pub put_fits : (m : Model) (l x : ℕ) → can_put m l x ≡ true → Fits m l x
-put_fits m l x can =
-    let a = and_parts _ _ can in
-    let b = and_parts _ _ a.1 in
-    let c = and_parts _ _ b.1 in
-    record { there = ltb-true _ _ a.0; order = leb-true _ _ b.0; fresh = not-true _ c.0; room = ltb-true _ _ c.1 }
+put_fits m l x can = record { there = grind arith; order = grind arith; fresh = grind arith; room = grind arith }
 
 pub fits_put : (m : Model) (l x : ℕ) → Fits m l x → can_put m l x ≡ true
-fits_put m l x f =
-    and_from _ _ (lt-ltb _ _ f.there) (and_from _ _ (le-leb _ _ f.order) (and_from _ _ (not_from_false _ f.fresh) (lt-ltb _ _ f.room)))
+fits_put m l x f = grind arith
 
 module _ {m : Model} {l x : ℕ} (f : Fits m l x) where
   -- the order stands last in its lane
@@ -77,16 +73,18 @@ pub sound_offer : {m : Model} → Sound m → (l : ℕ) (o : Option ℕ) → Sou
 sound_offer s l None = s
 sound_offer s l (Some x) = sound_out s l x
 
-pub sound_clear : {m : Model} → Sound m → Sound (cleared m)
-sound_clear {m} s =
-    let n = length-replicate {A = List ℕ} (lanes_of m) [] in
-    let each : (P : List ℕ → Type 0) → P [] → AllByRecursion P (replicate (lanes_of m) []) =
-    λ P none. All-from_get_or P _ [] (λ i h. rw (get_or-replicate {A = List ℕ} (lanes_of m) i [] [] (omega (arith, n, h))) none) in
+-- n empty lanes of depth d are a sound bank, whatever the rule
+pub sound_empty : {n d : ℕ} → 1 ≤ n → n ≤ max_lanes → 1 ≤ d → d ≤ max_depth → (r : Rule) → Sound (empty_bank n d r)
+sound_empty {n} {d} some few low high r =
+    let long = length-replicate {A = List ℕ} n [] in
     record {
-      some = omega (arith, n, s.some);
-      few = omega (arith, n, s.few);
-      low = s.low;
-      high = s.high;
-      proper = each (λ xs. proper xs ≡ true) refl;
-      short = each (λ xs. length xs ≤ m.depth) (omega arith);
+      some = omega (arith, long);
+      few = omega (arith, long);
+      low = low;
+      high = high;
+      proper = All-replicate (λ xs. proper xs ≡ true) n [] refl;
+      short = All-replicate (λ xs. length xs ≤ d) n [] (omega arith);
     }
+
+pub sound_clear : {m : Model} → Sound m → Sound (cleared m)
+sound_clear {m} s = sound_empty s.some s.few s.low s.high m.rule

@@ -1,107 +1,67 @@
 -- Lists of orders: what is on them once an order is added or taken off.
-use Rattle.std.proofs.Common.{◌≡◌, ℕ, ◌+◌, ◌≤◌, Bool, true, false, cond, not, ◌&&◌, ◌||◌, eqb, List, [], ◌∷◌, ◌++◌, length, filter, sym, refl, ap, ◌∙◌, ⊎_elim, arith}
-use Rattle.std.proofs.lemmas.List.Elements.{filter-append}
-use Rattle.std.proofs.lemmas.List.{length-append}
-use Rattle.std.proofs.lemmas.Bool.{and_from, and_left, and_parts, and_right, cond-false, cond-true, eq-eqb, eqb-false, eqb-true, false≢true, le-leb, ne_eqb, not_from_false, not_from_true, not-true, or_cases, or_from, or_left, or_parts, or_right}
+use Rattle.std.proofs.Common.{◌≡◌, ℕ, ◌+◌, ◌≤◌, Bool, true, false, not, ◌&&◌, ◌||◌, eqb, List, [], ◌∷◌, ◌++◌, length, filter, sym, refl, ap, ◌∙◌, ⊎_elim, arith}
+use Rattle.std.specs.List.{list_any}
+use Rattle.std.proofs.Math.Bool.{and_comm}
+use Rattle.std.proofs.lemmas.List.Filters.{length-filter_both}
+use Rattle.std.proofs.lemmas.Map.Views.{any-filter_same}
+use Rattle.std.proofs.lemmas.Bool.{eqb-true, false≢true, or_cases}
 use Rattle.recording.specs.Record.{max_order}
 use Rattle.bank.specs.Orders.{holds, without, proper}
 
-eqb_sym : (a b : ℕ) → eqb a b ≡ false → eqb b a ≡ false
-eqb_sym a b e = ne_eqb b a (λ q. eqb-false a b e (sym q))
+-- what a slice's `contains` answers
+pub any_holds : (xs : List ℕ) (x : ℕ) → list_any (λ y. eqb y x) xs ≡ holds xs x
+any_holds [] x = refl
+any_holds (y ∷ ys) x = ap (λ b. eqb y x || b) (any_holds ys x)
 
 -- ---- an order added
 
-or_assoc : (a b c : Bool) → (a || (b || c)) ≡ ((a || b) || c)
-or_assoc true b c = refl
-or_assoc false b c = refl
-
 pub holds_append : (xs ys : List ℕ) (x : ℕ) → holds (xs ++ ys) x ≡ (holds xs x || holds ys x)
 holds_append [] ys x = refl
-holds_append (z ∷ zs) ys x = ap (λ t. eqb z x || t) (holds_append zs ys x) ∙ or_assoc (eqb z x) (holds zs x) (holds ys x)
+holds_append (z ∷ zs) ys x = grind (arith, holds_append zs ys x)
 
 -- an order that was added is held
 pub holds_push : (xs : List ℕ) (x : ℕ) → holds (xs ++ x ∷ []) x ≡ true
-holds_push xs x = holds_append xs (x ∷ []) x ∙ or_right (holds xs x) _ (or_left (eqb x x) false (eq-eqb x x refl))
+holds_push xs x = grind (arith, holds_append xs (x ∷ []) x)
 
 pub proper_push : (xs : List ℕ) (x : ℕ) → proper xs ≡ true → holds xs x ≡ false → x ≤ max_order → proper (xs ++ x ∷ []) ≡ true
-proper_push [] x p h l = and_from _ _ (le-leb x max_order l) refl
-proper_push (y ∷ ys) x p h l =
-    let a = and_parts _ _ p in
-    let b = and_parts _ _ a.1 in
-    let o = or_parts _ _ h in
-    let apart : holds (ys ++ x ∷ []) y ≡ false =
-    holds_append ys (x ∷ []) y ∙ or_from _ _ (not-true _ b.0) (or_from _ _ (eqb_sym y x o.0) refl) in
-    and_from _ _ a.0 (and_from _ _ (not_from_false _ apart) (proper_push ys x b.1 o.1 l))
+proper_push [] x p h l = grind arith
+proper_push (y ∷ ys) x p h l = grind (arith, holds_append ys (x ∷ []) y, proper_push ys x)
 
 -- ---- an order taken off
 
--- one element of a filtered list: e says that it is the one that is looked for, h that the rest has that one, q whether
--- that one passes, t whether this element passes
-kept_one : (e h q t : Bool) → (e ≡ true → t ≡ q) → cond t (e || (h && q)) (h && q) ≡ ((e || h) && q)
-kept_one true h true t same = rw (same refl)
-kept_one true true false t same = rw (same refl)
-kept_one true false false t same = rw (same refl)
-kept_one false h q true same = refl
-kept_one false h q false same = refl
-
-holds_cond : (t : Bool) (z : ℕ) (zs : List ℕ) (y : ℕ) → holds (cond t (z ∷ zs) zs) y ≡ cond t (eqb z y || holds zs y) (holds zs y)
-holds_cond true z zs y = refl
-holds_cond false z zs y = refl
-
 -- a filtered list has what the list has and passes
 holds_kept : (p : ℕ → Bool) (xs : List ℕ) (y : ℕ) → holds (filter p xs) y ≡ (holds xs y && p y)
-holds_kept p [] y = refl
-holds_kept p (z ∷ zs) y =
-    holds_cond (p z) z (filter p zs) y
-    ∙ ap (λ h. cond (p z) (eqb z y || h) h) (holds_kept p zs y)
-    ∙ kept_one (eqb z y) (holds zs y) (p y) (p z) (λ e. ap p (eqb-true z y e))
+holds_kept p xs y =
+    sym (any_holds (filter p xs) y)
+    ∙ any-filter_same (λ z. eqb z y) p (p y) (λ z e. ap p (eqb-true z y e)) xs
+    ∙ and_comm (p y) (list_any (λ z. eqb z y) xs)
+    ∙ ap (λ b. b && p y) (any_holds xs y)
 
 -- an order that was taken off is gone, and the others are still there
 pub holds_without : (xs : List ℕ) (x y : ℕ) → holds (without xs x) y ≡ (holds xs y && not (eqb y x))
 holds_without xs x y = holds_kept (λ z. not (eqb z x)) xs y
 
 pub without_gone : (xs : List ℕ) (x : ℕ) → holds (without xs x) x ≡ false
-without_gone xs x = holds_without xs x x ∙ and_right _ _ (not_from_true _ (eq-eqb x x refl))
+without_gone xs x = grind (arith, holds_without xs x x)
 
 pub proper_without : (xs : List ℕ) (x : ℕ) → proper xs ≡ true → proper (without xs x) ≡ true
 proper_without [] x p = refl
-proper_without (z ∷ zs) x p =
-    let a = and_parts _ _ p in
-    let b = and_parts _ _ a.1 in
-    let rest = proper_without zs x b.1 in
-    let apart : holds (without zs x) z ≡ false = holds_without zs x z ∙ and_left _ _ (not-true _ b.0) in
-    elim (eqb z x) as (λ t. proper (cond (not t) (z ∷ without zs x) (without zs x)) ≡ true) [
-      | true ↦ rest
-      | false ↦ and_from _ _ a.0 (and_from _ _ (not_from_false _ apart) rest)
-    ]
+proper_without (z ∷ zs) x p = grind (arith, holds_without zs x z, proper_without zs x)
 
 -- what is not on a list cannot be taken off
 pub without_none : (xs : List ℕ) (x : ℕ) → holds xs x ≡ false → without xs x ≡ xs
 without_none [] x h = refl
-without_none (z ∷ zs) x h =
-    let o = or_parts _ _ h in cond-true _ _ _ (not_from_false _ o.0) ∙ ap (λ ys. z ∷ ys) (without_none zs x o.1)
-
--- what stands before and after an order on a list without repeats
-proper_around : (before after : List ℕ) (x : ℕ) → proper (before ++ x ∷ after) ≡ true → (holds before x ≡ false) × (holds after x ≡ false)
-proper_around [] after x p = (refl, not-true _ (and_parts _ _ (and_parts _ _ p).1).0)
-proper_around (y ∷ ys) after x p =
-    let b = and_parts _ _ (and_parts _ _ p).1 in
-    let rest = proper_around ys after x b.1 in
-    let apart = (or_parts _ _ (sym (holds_append ys (x ∷ after) y) ∙ not-true _ b.0)).1 in
-    (or_from _ _ (eqb_sym x y (or_parts _ _ apart).0) rest.0, rest.1)
+without_none (z ∷ zs) x h = grind (arith, without_none zs x)
 
 -- of a list without repeats just that order goes, and the others keep their sequence
 pub without_around : (before after : List ℕ) (x : ℕ) → proper (before ++ x ∷ after) ≡ true → without (before ++ x ∷ after) x ≡ before ++ after
-without_around before after x p =
-    let o = proper_around before after x p in
-    let here : without (x ∷ after) x ≡ after = cond-false _ _ _ (not_from_true _ (eq-eqb x x refl)) ∙ without_none after x o.1 in
-    filter-append (λ y. not (eqb y x)) before (x ∷ after) ∙ ap (λ ys. ys ++ without (x ∷ after) x) (without_none before x o.0) ∙ ap (λ ys. before ++ ys) here
+without_around [] after x p = grind (arith, without_none after x)
+without_around (y ∷ ys) after x p = grind (arith, holds_append ys (x ∷ after) y, without_around ys after x)
 
 pub length_without_le : (xs : List ℕ) (x : ℕ) → length (without xs x) ≤ length xs
-length_without_le [] x = omega arith
-length_without_le (z ∷ zs) x =
-    let rest = length_without_le zs x in
-    elim (eqb z x) as (λ t. length (cond (not t) (z ∷ without zs x) (without zs x)) ≤ length (z ∷ zs)) [ true ↦ omega arith | false ↦ omega arith ]
+length_without_le xs x =
+    let stays : ℕ → Bool = λ y. not (eqb y x) in
+    omega (arith, length-filter_both stays (λ y. not (stays y)) (λ _. refl) xs)
 
 -- where an order stands on a list
 pub record Around (xs : List ℕ) (x : ℕ) : Type 0 where
@@ -119,12 +79,5 @@ around_held (z ∷ zs) x h =
 
 -- a list without repeats has one order less once one that it has is taken off
 pub length_without : (xs : List ℕ) (x : ℕ) → proper xs ≡ true → holds xs x ≡ true → length (without xs x) + 1 ≡ length xs
-length_without xs x p h =
-    let r = around_held xs x h in
-    let old = r.before ++ x ∷ r.after in
-    let e : length (without xs x) ≡ length (r.before ++ r.after) =
-    ap (λ ys. length (without ys x)) r.sequence ∙ ap length (without_around r.before r.after x (ap proper (sym r.sequence) ∙ p)) in
-    let a = length-append r.before r.after in
-    let b = length-append r.before (x ∷ r.after) in
-    let l : length xs ≡ length old = ap length r.sequence in
-    omega arith
+length_without [] x p h = absurd (false≢true h)
+length_without (z ∷ zs) x p h = grind (arith, without_none zs x, length_without zs x)

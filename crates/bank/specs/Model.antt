@@ -1,6 +1,6 @@
 -- What a bank means, and what each call does to its meaning.
 use Rattle.std.specs.Prelude.{◌≡◌, ℕ, ◌≤◌, Bool, true, not, ◌&&◌, List, [], ◌∷◌, ◌++◌, length, replicate, Some, None, Option, MatchOption, nat_le, nat_lt, slice_index_or, slice_set}
-use Rattle.std.specs.List.{AllByRecursion}
+use Rattle.std.specs.List.{All, AllPass}
 use Rattle.recording.specs.Record.{max_order, max_stations}
 use Rattle.bank.specs.Orders.{holds, without, proper}
 use Rattle.bank.specs.Rules.{Rule}
@@ -34,8 +34,8 @@ pub record Sound (m : Model) : Type 0 where
   pub few : lanes_of m ≤ max_lanes
   pub low : 1 ≤ m.depth
   pub high : m.depth ≤ max_depth
-  pub proper : AllByRecursion (λ xs. proper xs ≡ true) m.held
-  pub short : AllByRecursion (λ xs. length xs ≤ m.depth) m.held
+  pub proper : AllPass proper m.held
+  pub short : All (λ xs. length xs ≤ m.depth) m.held
 
 -- ---- what the calls do, by what the lanes hold
 

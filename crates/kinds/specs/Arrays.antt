@@ -1,9 +1,9 @@
 -- What a bank of arrays means.
-use Rattle.bank.specs.Model.{Model, max_depth}
+use Rattle.bank.specs.Model.{Model}
 use Rattle.bank.specs.Rules.{Rule}
-use Rattle.kinds.specs.Lanes.{held_in}
+use Rattle.kinds.specs.Tables.{deepest}
 use Rattle.kinds.specs.declared.array.ArrayBank.{ArrayBank}
 
 -- the lanes hold what the table of lanes holds, the depth is the greatest, and the rule is that of the bank's kind
 abbrev pub array_model : {K : Type 0} → (K → Rule) → ArrayBank K → Model
-array_model rule b = record { held = held_in b.table; depth = max_depth; rule = rule b.kind }
+array_model rule b = deepest b.table.lanes.items (rule b.kind)

@@ -1,4 +1,3 @@
 pub mod Picks
-pub mod Lanes
-pub mod Arrays
 pub mod Tables
+pub mod Arrays

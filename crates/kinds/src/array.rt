@@ -1,7 +1,6 @@
 ghost use Rattle.std.specs.Prelude.{◌≡◌, ◌<◌, ◌≤◌, ◌⊎◌, MatchResult};
 ghost use Rattle.bank.specs.Model.{empty_bank, max_depth, max_lanes};
 ghost use Rattle.kinds.specs.Arrays.{array_model};
-ghost use Rattle.kinds.specs.Tables.{array_sound};
 
 use crate::fault::BankFault;
 use crate::kind::Kind;
@@ -10,7 +9,7 @@ use crate::table::Table;
 use bank::bank::Bank;
 use bank::limits;
 
-/// A bank whose lanes are arrays of cells, as deep as a bank may be, all of one kind.
+/// A bank whose lanes lie in arrays of a fixed size, as deep as a bank may be, all of one kind.
 #[derive(Drop)]
 pub struct ArrayBank<K> {
     table: Table,
@@ -20,7 +19,7 @@ pub struct ArrayBank<K> {
 impl<K: Kind> Bank for ArrayBank<K> {
     ghost model = { array_model K.Kind.rule };
 
-    ghost sound = { λ b. array_sound K.Kind.rule b };
+    ghost sound = { λ b. b.table.sound (K.Kind.rule b.kind) };
 
     fn lanes(&self) -> usize {
         self.table.count()
@@ -63,7 +62,7 @@ impl<K: Kind + Default> ArrayBank<K> {
         ensures kind { K.Default.is_default result.kind }
     {
         ArrayBank {
-            table: Table::empty(),
+            table: Table::empty(limits::MAX_LANES),
             kind: K::default(),
         }
     }
@@ -80,8 +79,7 @@ impl<K: Kind> ArrayBank<K> {
         if lanes < 1 || lanes > limits::MAX_LANES {
             return Err(BankFault::Lanes);
         }
-        self.table.set_count(lanes);
-        self.clear();
+        self.table = Table::empty(lanes);
         Ok(())
     }
 }

@@ -1,18 +1,45 @@
-ghost use Rattle.std.specs.Prelude.{◌≡◌, ◌≤◌, true, length, take};
+ghost use Rattle.std.specs.Prelude.{◌≡◌, ◌<◌, [], ◌∷◌, ◌++◌, length};
 ghost use Rattle.bank.specs.Model.{max_depth};
-ghost use Rattle.bank.specs.Orders.{proper as all_proper};
+ghost use Rattle.bank.specs.Orders.{without};
 
+use arrayvec::ArrayVec;
 use bank::limits::MAX_DEPTH;
+use std::marker::Model;
 
-/// One lane: the orders that it holds, from oldest to newest, in its first `len` cells.
-#[derive(Clone, Copy)]
+/// One lane: the orders that it holds, from oldest to newest.
+#[derive(Default, Drop)]
 pub(crate) struct Lane {
-    cells: [u16; MAX_DEPTH],
-    len: usize,
-    ghost long: { length cells ≡ max_depth },
-    ghost within: { len ≤ max_depth },
-    ghost fair: { all_proper (take len cells) ≡ true },
+    held: ArrayVec<u16, MAX_DEPTH>,
 }
 
-// The methods stand apart: their contracts cite a definition that names `Lane`, which this file cannot import.
-mod cells;
+impl Model for Lane {
+    ghost use Rattle.std.specs.Prelude.{ℕ, List};
+
+    ghost Value = { List ℕ };
+
+    ghost view = { λ lane. lane.held.items };
+}
+
+impl Lane {
+    /// The orders that the lane holds, from oldest to newest.
+    pub(crate) fn orders(&self) -> &[u16]
+        ensures { result.now ≡ self.now }
+    {
+        self.held.as_slice()
+    }
+
+    /// Puts an order last.
+    pub(crate) fn push(&mut self, order: u16)
+        requires { length self.old < max_depth }
+        ensures { self.new ≡ self.old ++ order ∷ [] }
+    {
+        self.held.push(order);
+    }
+
+    /// Takes an order out, if the lane holds it; the others keep their sequence.
+    pub(crate) fn remove(&mut self, order: u16)
+        ensures { self.new ≡ without self.old order }
+    {
+        self.held.retain(|held| *held != order);
+    }
+}

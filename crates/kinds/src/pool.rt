@@ -8,7 +8,7 @@ use crate::orders::oldest;
 pub type Pool = ArrayBank<Any>;
 
 /// The kind of a pool's lanes. The oldest order is offered.
-#[derive(Clone, Copy, Default)]
+#[derive(Clone, Copy, Debug, Default, PartialEq, Eq, Hash)]
 pub struct Any;
 
 impl Kind for Any {

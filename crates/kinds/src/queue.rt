@@ -8,7 +8,7 @@ use crate::orders::oldest;
 pub type Queue = ArrayBank<Oldest>;
 
 /// The kind of a queue's lanes.
-#[derive(Clone, Copy, Default)]
+#[derive(Clone, Copy, Debug, Default, PartialEq, Eq, Hash)]
 pub struct Oldest;
 
 impl Kind for Oldest {

@@ -8,7 +8,7 @@ use crate::orders::newest;
 pub type Stack = ArrayBank<Newest>;
 
 /// The kind of a stack's lanes.
-#[derive(Clone, Copy, Default)]
+#[derive(Clone, Copy, Debug, Default, PartialEq, Eq, Hash)]
 pub struct Newest;
 
 impl Kind for Newest {

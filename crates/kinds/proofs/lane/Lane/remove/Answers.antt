@@ -1,10 +1,7 @@
-use Rattle.std.proofs.Common.{ap, ◌∙◌, arith}
-use Rattle.bank.specs.Orders.{proper}
-use Rattle.bank.proofs.Orders.{proper_without}
+use Rattle.std.proofs.Common.{rules}
+use Rattle.arrayvec.proofs.ArrayVecLemmas.{filter-from_retain}
 use Rattle.kinds.proofs.lane.Lane.remove.Goals as goal
 
-pub invariant_of-self : goal.invariant_of-self
-invariant_of-self c =
-    let s = c.args.self.now in
-    let fair = ap proper c.keep_others-len.ensures.front ∙ proper_without _ c.args.order s.fair in
-    record { long = omega arith; within = omega arith; fair = fair }
+pub returns : goal.returns
+returns c =
+    rw (← c.self.view_is) (filter-from_retain _ _ _ (λ x b f' y called. search rules) _ _ c.retain.ensures.filtered)

@@ -1,6 +1,6 @@
-use Rattle.std.proofs.Common.{sym, refl}
-use Rattle.kinds.specs.Tables.{length_held}
+use Rattle.std.proofs.Common.{arith}
+use Rattle.bank.specs.Rules.{every_held}
 use Rattle.kinds.proofs.table.Table.count.Goals as goal
 
-pub returns : goal.returns
-returns c = record { held = sym (length_held c.args.self.now); count = refl }
+pub returns-clause-some : goal.returns-clause-some
+returns-clause-some c = omega (arith, (c.args.self.now.sound every_held).some)

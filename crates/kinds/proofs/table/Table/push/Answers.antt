@@ -1,24 +1,18 @@
-use Rattle.std.proofs.Common.{[], ◌∷◌, ◌++◌, length, sym, ap, ◌∙◌, arith}
-use Rattle.bank.specs.Orders.{holds}
-use Rattle.kinds.specs.Tables.{held_at, held_edit, length_held}
+use Rattle.std.proofs.Common.{◌≡◌, arith}
+use Rattle.std.specs.Prelude.{length, slice_set}
+use Rattle.std.specs.List.{refill}
+use Rattle.std.proofs.lemmas.Grind.{common_steps}
+use Rattle.bank.specs.Model.{put_in}
+use Rattle.bank.proofs.Models.{Fits, sound_put}
+use Rattle.kinds.specs.Tables.{deepest}
 use Rattle.kinds.proofs.table.Table.push.Goals as goal
 
-pub offset_bounds-lanes-lane : goal.offset_bounds-lanes-lane
-offset_bounds-lanes-lane c = omega (arith, length_held c.args.self.now)
-
-pub listed : goal.listed
-listed c = omega (arith, length_held c.args.self.now)
-
-pub bounds-lanes-lane : goal.bounds-lanes-lane
-bounds-lanes-lane c = omega (arith, length_held c.args.self.now)
-
-pub push-requires : goal.push-requires
-push-requires c =
-    let t = c.args.self.now in
-    let e = held_at t c.args.lane c.index-lanes-lane.result (omega (arith, length_held t)) in
-    record { room = omega (arith, ap length e, c.requires.room); order = c.requires.order; fresh = ap (λ xs. holds xs c.args.order) (sym e) ∙ c.requires.fresh }
-
-pub returns : goal.returns
-returns c =
-    let t = c.args.self.now in
-    held_edit (λ xs. xs ++ c.args.order ∷ []) t c.args.lane c.index-lanes-lane.result c.push.new.self (omega (arith, length_held t)) c.push.ensures
+pub invariant_of-self : goal.invariant_of-self
+invariant_of-self c =
+    let held = c.args.self.now.lanes.items in
+    let after : refill (length held) held (slice_set c.deref_mut.result.now c.args.lane c.push.new.self) ≡ put_in held c.args.lane c.args.order = grind (arith, common_steps) in
+    record {
+      sound = λ rule.
+          let fits : Fits (deepest held rule) c.args.lane c.args.order = record { there = c.requires.lane; order = c.requires.order; fresh = c.requires.fresh; room = c.requires.room } in
+          rw after (sound_put fits (c.args.self.now.sound rule));
+    }

@@ -1,14 +1,12 @@
-use Rattle.std.proofs.Common.{sym, arith}
-use Rattle.std.proofs.lemmas.List.{set_past}
-use Rattle.bank.specs.Orders.{without}
-use Rattle.kinds.specs.Lanes.{held_in}
-use Rattle.kinds.specs.Tables.{held_edit, length_held}
+use Rattle.std.proofs.Common.{◌≡◌, arith}
+use Rattle.std.specs.Prelude.{slice_set}
+use Rattle.std.proofs.lemmas.Grind.{common_steps}
+use Rattle.bank.specs.Model.{taken_out}
+use Rattle.bank.proofs.Models.{sound_out}
 use Rattle.kinds.proofs.table.Table.remove.Goals as goal
 
-pub returns-then-lane-self : goal.returns-then-lane-self
-returns-then-lane-self c =
-    held_edit (λ xs. without xs c.args.order) c.args.self.now c.args.lane c.index-lanes-lane.result c.remove.new.self c.if-lane-self.true c.remove.ensures
-
-pub returns-else-lane-self : goal.returns-else-lane-self
-returns-else-lane-self c =
-    let t = c.args.self.now in sym (set_past (held_in t) c.args.lane _ (omega (arith, length_held t)))
+pub invariant_of-self : goal.invariant_of-self
+invariant_of-self c =
+    let held = c.args.self.now.lanes.items in
+    let after : slice_set held c.args.lane c.remove.new.self ≡ taken_out held c.args.lane c.args.order = grind (arith, common_steps) in
+    record { sound = λ rule. rw after (sound_out (c.args.self.now.sound rule) c.args.lane c.args.order) }
