@@ -82,26 +82,36 @@ fn kind_of(number: u16) -> EventKind
     }
 }
 
-/// What a file holds one after the other.
-trait Item: Copy {
-    /// The item that stands from a bit of a file's bytes on, where there are so many stations.
-    ghost at: { List ℕ → ℕ → ℕ → Reading Self };
+/// Items of one kind, which a file holds one after the other.
+trait Items {
+    type Item: Copy;
 
-    /// The next item of a recording with so many stations.
-    fn read(cursor: &mut BitCursor, stations: u16) -> Result<Self, ReadFault>
+    /// The item that stands in a file's bytes from a bit on.
+    ghost at: { Self → List ℕ → ℕ → Reading Self.Item };
+
+    /// The next item.
+    fn next(&self, cursor: &mut BitCursor) -> Result<Self::Item, ReadFault>
         requires { cursor.old.place < 2 ^ 59 }
         ensures moved { Moved cursor.old cursor.new item_bits }
         ensures reading { Gives (λ v. (v, cursor.new.place)) result
-            (at cursor.old.bytes.now stations cursor.old.place) };
+            (at self.now cursor.old.bytes.now cursor.old.place) };
 }
 
-impl Item for Event {
-    ghost at = { event_at };
+/// The events of a recording with so many stations.
+#[derive(Clone, Copy)]
+struct Events {
+    stations: u16,
+}
+
+impl Items for Events {
+    type Item = Event;
+
+    ghost at = { λ s bytes. event_at bytes s.stations };
 
     #[tactic(auto, unfolding(crate::specs::Reading::event_at))]
-    fn read(cursor: &mut BitCursor, stations: u16) -> Result<Event, ReadFault> {
+    fn next(&self, cursor: &mut BitCursor) -> Result<Event, ReadFault> {
         let number = field(cursor, KIND_WIDTH, 0, MAX_KIND)?;
-        let station = field(cursor, STATION_WIDTH, 0, stations.saturating_sub(1))?;
+        let station = field(cursor, STATION_WIDTH, 0, self.stations.saturating_sub(1))?;
         let kind = kind_of(number);
         let order = if kind.carries_order() {
             field(cursor, ORDER_WIDTH, 0, MAX_ORDER)?
@@ -116,30 +126,31 @@ impl Item for Event {
     }
 }
 
-/// An entry of a line-up.
-impl Item for u16 {
-    ghost at = { λ bytes _. entry_at bytes };
+/// The entries of a line-up.
+#[derive(Clone, Copy)]
+struct Entries;
 
-    fn read(cursor: &mut BitCursor, _stations: u16) -> Result<u16, ReadFault> {
+impl Items for Entries {
+    type Item = u16;
+
+    ghost at = { λ _ bytes. entry_at bytes };
+
+    fn next(&self, cursor: &mut BitCursor) -> Result<u16, ReadFault> {
         field(cursor, ENTRY_WIDTH, 0, MAX_CALL)
     }
 }
 
 /// As many items as there are slots.
 #[tactic(auto, using(crate::proofs::Many::many_steps))]
-fn read_all<T: Item>(
-    cursor: &mut BitCursor,
-    stations: u16,
-    slots: &mut [T],
-) -> Result<(), ReadFault>
+fn read_all<I: Items>(items: &I, cursor: &mut BitCursor, slots: &mut [I::Item]) -> Result<(), ReadFault>
     requires few { length slots.old ≤ max_events }
     requires countable { cursor.old.place < 2 ^ 58 }
     ensures moved { Moved cursor.old cursor.new (item_bits * length slots.old) }
     ensures reading { Gives (λ _. (slots.new, cursor.new.place)) result
-        (many_at (T.at cursor.old.bytes.now stations) (length slots.old) cursor.old.place) }
+        (many_at (I.at items.now cursor.old.bytes.now) (length slots.old) cursor.old.place) }
 {
     for slot in slots.iter_mut() {
-        *slot = T::read(cursor, stations)?;
+        *slot = items.next(cursor)?;
     }
     Ok(())
 }
@@ -154,7 +165,7 @@ fn read_lineup(cursor: &mut BitCursor, slots: &mut [u16]) -> Result<u16, ReadFau
     ensures rest { IfOk result (λ n. (n ≤ max_entries) × (drop n slots.new ≡ drop n slots.old)) }
 {
     let length = field(cursor, LENGTH_WIDTH, 0, MAX_ENTRIES as u16)?;
-    read_all(cursor, 0, &mut slots[..length as usize])?;
+    read_all(&Entries, cursor, &mut slots[..length as usize])?;
     Ok(length)
 }
 
@@ -216,7 +227,7 @@ fn read_recording(cursor: &mut BitCursor, recording: &mut Recording) -> Result<(
     recording.stations = header.stations;
     recording.count = header.count;
     let events = &mut recording.events[..header.count as usize];
-    read_all(cursor, header.stations, events)?;
+    read_all(&Events { stations: header.stations }, cursor, events)?;
     read_lineups(
         cursor,
         header.stations,

@@ -5,7 +5,7 @@ use Rattle.reader.proofs.read_all.Given as goal
 
 abbrev pub invariant-loop-slot : goal.invariant-loop-slot
 invariant-loop-slot g l =
-    let item = g.T.Item.at l.initial.cursor.bytes.now l.stations in
+    let item = g.I.Items.at l.items l.initial.cursor.bytes.now in
     let n = length l.initial.slots in
     record {
       moved : Moved l.initial.cursor l.cursor (item_bits * l.slot-index);
