@@ -90,11 +90,26 @@ trait Items {
     ghost at: { Self → List ℕ → ℕ → Reading Self.Item };
 
     /// The next item.
-    fn next(&self, cursor: &mut BitCursor) -> Result<Self::Item, ReadFault>
+    fn read_one(&self, cursor: &mut BitCursor) -> Result<Self::Item, ReadFault>
         requires { cursor.old.place < 2 ^ 59 }
         ensures moved { Moved cursor.old cursor.new item_bits }
         ensures reading { Gives (λ v. (v, cursor.new.place)) result
             (at self.now cursor.old.bytes.now cursor.old.place) };
+
+    /// As many items as there are slots.
+    #[tactic(auto, using(crate::proofs::Many::many_steps))]
+    fn read_all(&self, cursor: &mut BitCursor, slots: &mut [Self::Item]) -> Result<(), ReadFault>
+        requires few { length slots.old ≤ max_events }
+        requires countable { cursor.old.place < 2 ^ 58 }
+        ensures moved { Moved cursor.old cursor.new (item_bits * length slots.old) }
+        ensures reading { Gives (λ _. (slots.new, cursor.new.place)) result
+            (many_at (at self.now cursor.old.bytes.now) (length slots.old) cursor.old.place) }
+    {
+        for slot in slots.iter_mut() {
+            *slot = self.read_one(cursor)?;
+        }
+        Ok(())
+    }
 }
 
 /// The events of a recording with so many stations.
@@ -109,7 +124,7 @@ impl Items for Events {
     ghost at = { λ s bytes. event_at bytes s.stations };
 
     #[tactic(auto, unfolding(crate::specs::Reading::event_at))]
-    fn next(&self, cursor: &mut BitCursor) -> Result<Event, ReadFault> {
+    fn read_one(&self, cursor: &mut BitCursor) -> Result<Event, ReadFault> {
         let number = field(cursor, KIND_WIDTH, 0, MAX_KIND)?;
         let station = field(cursor, STATION_WIDTH, 0, self.stations.saturating_sub(1))?;
         let kind = kind_of(number);
@@ -135,24 +150,9 @@ impl Items for Entries {
 
     ghost at = { λ _ bytes. entry_at bytes };
 
-    fn next(&self, cursor: &mut BitCursor) -> Result<u16, ReadFault> {
+    fn read_one(&self, cursor: &mut BitCursor) -> Result<u16, ReadFault> {
         field(cursor, ENTRY_WIDTH, 0, MAX_CALL)
     }
-}
-
-/// As many items as there are slots.
-#[tactic(auto, using(crate::proofs::Many::many_steps))]
-fn read_all<I: Items>(items: &I, cursor: &mut BitCursor, slots: &mut [I::Item]) -> Result<(), ReadFault>
-    requires few { length slots.old ≤ max_events }
-    requires countable { cursor.old.place < 2 ^ 58 }
-    ensures moved { Moved cursor.old cursor.new (item_bits * length slots.old) }
-    ensures reading { Gives (λ _. (slots.new, cursor.new.place)) result
-        (many_at (I.at items.now cursor.old.bytes.now) (length slots.old) cursor.old.place) }
-{
-    for slot in slots.iter_mut() {
-        *slot = items.next(cursor)?;
-    }
-    Ok(())
 }
 
 /// The next line-up, into the front of the slots; tells its length.
@@ -165,7 +165,7 @@ fn read_lineup(cursor: &mut BitCursor, slots: &mut [u16]) -> Result<u16, ReadFau
     ensures rest { IfOk result (λ n. (n ≤ max_entries) × (drop n slots.new ≡ drop n slots.old)) }
 {
     let length = field(cursor, LENGTH_WIDTH, 0, MAX_ENTRIES as u16)?;
-    read_all(&Entries, cursor, &mut slots[..length as usize])?;
+    Entries.read_all(cursor, &mut slots[..length as usize])?;
     Ok(length)
 }
 
@@ -227,7 +227,10 @@ fn read_recording(cursor: &mut BitCursor, recording: &mut Recording) -> Result<(
     recording.stations = header.stations;
     recording.count = header.count;
     let events = &mut recording.events[..header.count as usize];
-    read_all(&Events { stations: header.stations }, cursor, events)?;
+    Events {
+        stations: header.stations,
+    }
+    .read_all(cursor, events)?;
     read_lineups(
         cursor,
         header.stations,
