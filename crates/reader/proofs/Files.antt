@@ -17,8 +17,8 @@ use Rattle.reader.specs.declared.fault.ReadFault.{ReadFault}
 use Rattle.std.specs.Prelude.{MatchResult}
 use Rattle.reader.specs.Reading.{Faulty, Gives, Holds, decode, event_at, filling_at, header_at, header_of, lineup_at, many_at, record_of}
 use Rattle.recording.specs.Record.{EventOk, Limits, all_entries, lineups_of, max_code, max_events, max_stations, no_event, padded, used_entries, used_events, used_lengths}
-use Rattle.reader.proofs.Fields.{field_within}
-use Rattle.reader.proofs.Stands.{Stands, event_back, event_stands, field_back, field_stands, lineup_back, lineup_stands, many_back, many_stands, stands_append}
+use Rattle.reader.proofs.Fields.{field_back, field_within}
+use Rattle.reader.proofs.Stands.{Stands, event_back, event_stands, field_stands, lineup_back, lineup_stands, many_back, many_stands, stands_append}
 use Rattle.recording.proofs.Ranges.{not_both, ok_parts, same_ok}
 use Rattle.recording.proofs.Layouts.{laid_parts, span_append}
 use Rattle.recording.proofs.Lineups.{LineupOk, all_flat, all_lengths, all_parts, flat, flat_parts, full_entries, full_events, full_lineups, lengths, lengths_parts, parts_flat, total_lengths}

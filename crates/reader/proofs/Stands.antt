@@ -13,7 +13,7 @@ use Rattle.recording.proofs.Layouts.{kind_most, laid_append, laid_parts, span_ap
 use Rattle.recording.proofs.Lineups.{LineupOk}
 use Rattle.recording.proofs.Ranges.{ok_parts, same_ok}
 use Rattle.reader.specs.Reading.{Reading, entry_at, event_at, field_at, kind_of, lineup_at, many_at}
-use Rattle.reader.proofs.Fields.{field_in, field_within}
+use Rattle.reader.proofs.Fields.{field_back, field_within}
 
 -- the fields fs stand from bit p up to bit q
 pub record Stands (bs : List ℕ) (p q : ℕ) (fs : List Field) : Type 0 where
@@ -42,9 +42,6 @@ unfolding span Laid
 field_stands bs p w lo hi v q h =
     let a = field_within bs p w lo hi v q h in
     record { laid = (sym a.spells, tt); end = omega (arith, a.end); room = a.room }
-
-pub field_back : (bs : List ℕ) (p w lo hi v : ℕ) → spelled bs p w ≡ v → p + w ≤ 8 * length bs → lo ≤ v → v ≤ hi → field_at bs p w lo hi ≡ Ok (v, p + w)
-field_back bs p w lo hi v h r l m = field_in bs p w lo hi r v (sym h) l m (p + w) refl
 
 -- ---- many items
 

@@ -1,8 +1,8 @@
 //! The reader of recordings: a file's bytes into a record.
 //!
 //! The functions that read fields ask that the cursor's place is below a power of two that leaves room for all that they
-//! read, so that no sum of places can wrap, and ensure how far they move the cursor at the most (`near`). `read` starts at
-//! bit 0.
+//! read, so that no sum of places can wrap, and ensure how far they move the cursor at the most (`moved`), and that their
+//! result is what the definition of that part of a file gives (`reading`). `read` starts at bit 0.
 #![tactic(auto)]
 
 pub mod fault;
@@ -185,6 +185,7 @@ fn read_lineups(
         × Gives (λ _. (ls, cursor.new.place)) result (many_at (lineup_at cursor.old.bytes.now) stations cursor.old.place)
         × OnOk result (Placed ls lengths.new entries.new)) }
 {
+    // A count of the entries so far, as after a loop that shortens a `&mut` of them the proof knows none of them.
     let mut start = 0;
     for length in &mut lengths[..stations as usize] {
         *length = read_lineup(cursor, &mut entries[start..])?;
@@ -201,18 +202,16 @@ fn read_filling(cursor: &mut BitCursor) -> Result<(), ReadFault>
 {
     while cursor.place() % 8 != 0 {
         let bit = cursor.place();
-        let filler = cursor.take(FILLING_WIDTH)?;
-        if filler != 0 {
+        if cursor.take(FILLING_WIDTH)? != 0 {
             return Err(ReadFault::Filling { bit });
         }
     }
-    if cursor.at_end() {
-        Ok(())
-    } else {
-        Err(ReadFault::Filling {
+    if !cursor.at_end() {
+        return Err(ReadFault::Filling {
             bit: cursor.place(),
-        })
+        });
     }
+    Ok(())
 }
 
 /// The fields of a recording, into a record that is zero throughout.
@@ -223,24 +222,22 @@ fn read_recording(cursor: &mut BitCursor, recording: &mut Recording) -> Result<(
     ensures { Gives (λ _. recording.new) result (decode cursor.old.bytes.now) }
 {
     let header = read_header(cursor)?;
+    let stations = header.stations;
     recording.code = header.code;
-    recording.stations = header.stations;
+    recording.stations = stations;
     recording.count = header.count;
     let events = &mut recording.events[..header.count as usize];
-    Events {
-        stations: header.stations,
-    }
-    .read_all(cursor, events)?;
+    Events { stations }.read_all(cursor, events)?;
     read_lineups(
         cursor,
-        header.stations,
+        stations,
         &mut recording.lengths,
         &mut recording.entries,
     )?;
     read_filling(cursor)
 }
 
-/// The whole file, into a record that is zero throughout where nothing was read.
+/// The whole file, into a record that is first made zero throughout.
 fn fill(bytes: &[u8], recording: &mut Recording) -> Result<(), ReadFault>
     ensures { MatchResult result
         (λ _. Holds bytes.now recording.new)
