@@ -37,7 +37,7 @@ struct Header {
 }
 
 /// The next field, a number from `low` to `high`.
-#[tactic(auto, using(std::proofs::lemmas::Bool::Decides::nat_tests), unfolding(crate::specs::Reading::field_at, recording::specs::Ranges::ranged))]
+#[tactic(auto, unfolding(crate::specs::Reading::field_at, recording::specs::Ranges::ranged))]
 fn field(cursor: &mut BitCursor, width: Width, low: u16, high: u16) -> Result<u16, ReadFault>
     requires { cursor.old.place < 2 ^ 60 }
     ensures moved { Moved cursor.old cursor.new (bits_of width) }
@@ -215,7 +215,7 @@ fn read_filling(cursor: &mut BitCursor) -> Result<(), ReadFault>
 }
 
 /// The fields of a recording, into a record that is zero throughout.
-#[tactic(auto, unfolding(crate::specs::Reading::decode))]
+#[tactic(auto, using(crate::proofs::Slots::slots_steps), unfolding(crate::specs::Reading::decode))]
 fn read_recording(cursor: &mut BitCursor, recording: &mut Recording) -> Result<(), ReadFault>
     requires start { cursor.old.place ≡ 0 }
     requires zero { recording.old ≡ all_zero }
@@ -234,7 +234,8 @@ fn read_recording(cursor: &mut BitCursor, recording: &mut Recording) -> Result<(
         &mut recording.lengths,
         &mut recording.entries,
     )?;
-    read_filling(cursor)
+    read_filling(cursor)?;
+    Ok(())
 }
 
 /// The whole file, into a record that is first made zero throughout.
