@@ -1,11 +1,8 @@
 -- One field: what stands there is read, and what was read stands there.
-use Rattle.std.proofs.Common.{◌≡◌, ℕ, ◌+◌, ◌*◌, ◌<◌, ◌≤◌, List, length, Ok, Err, arith}
-use Rattle.std.proofs.lemmas.Bool.{le-leb}
+use Rattle.std.proofs.Common.{◌≡◌, ℕ, ◌+◌, ◌*◌, ◌≤◌, List, length, Ok, arith}
 use Rattle.std.proofs.lemmas.Bool.Decides.{nat_tests}
 use Rattle.bits.specs.Bits.{spelled}
-use Rattle.bits.specs.Told.{told}
-use Rattle.bits.specs.declared.told.Place.TheVariants.{AtBit}
-use Rattle.recording.specs.Ranges.{and_then, ranged}
+use Rattle.recording.specs.Ranges.{ranged}
 use Rattle.reader.specs.Reading.{field_at}
 
 pub field_back : (bs : List ℕ) (p w lo hi v : ℕ) → spelled bs p w ≡ v → p + w ≤ 8 * length bs → lo ≤ v → v ≤ hi → field_at bs p w lo hi ≡ Ok (v, p + w)
@@ -23,4 +20,4 @@ pub record Within (bs : List ℕ) (p w lo hi v q : ℕ) : Type 0 where
 pub field_within : (bs : List ℕ) (p w lo hi v q : ℕ) → field_at bs p w lo hi ≡ Ok (v, q) → Within bs p w lo hi v q
 unfolding field_at ranged
 field_within bs p w lo hi v q h =
-    record { room = grind (arith, nat_tests); end = grind (arith, nat_tests); spells = grind (arith, nat_tests); low = grind (arith, nat_tests); high = grind (arith, nat_tests) }
+    grind (arith, nat_tests)
