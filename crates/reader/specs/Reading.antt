@@ -36,7 +36,7 @@ pub record Moved (old new : BitCursor) (most : ℕ) : Type 0 where
 abbrev pub item_bits : ℕ
 item_bits = 18
 
--- the most bits of a line-up, counted so
+-- the most bits of a line-up, where each entry is counted as an item
 abbrev pub lineup_bits : ℕ
 lineup_bits = 10 + item_bits * max_entries
 

@@ -7,13 +7,12 @@
 
 pub mod fault;
 
-ghost use Rattle.std.specs.Prelude.{◌≡◌, ℕ, ◌+◌, ◌-◌, ◌*◌, ◌^◌, ◌<◌, ◌≤◌, List, ◌++◌, map, length, take, drop, replicate, Ok, Err, IfOk, OnOk, MatchResult};
+ghost use Rattle.std.specs.Prelude.{◌≡◌, ℕ, ◌*◌, ◌^◌, ◌<◌, ◌≤◌, List, length, take, drop, replicate, IfOk, OnOk, MatchResult};
 ghost use Rattle.bits.specs.Widths.{bits_of};
 ghost use Rattle.reader.specs.Faults.{read_told};
 ghost use Rattle.recording.specs.Layout.{gap};
-ghost use Rattle.reader.specs.Reading.{Faulty, Gives, Holds, Moved, Placed, Reading, decode, entry_at, event_at, field_at, filling_at, header_at, kind_of, lineup_at, item_bits, lineup_bits, many_at};
-ghost use Rattle.recording.specs.Record.{all_entries, all_zero, max_entries, max_events, max_stations, padded};
-ghost use Rattle.std.specs.List.{flat_map};
+ghost use Rattle.reader.specs.Reading.{Faulty, Gives, Holds, Moved, Placed, Reading, decode, entry_at, event_at, field_at, filling_at, header_at, item_bits, kind_of, lineup_at, lineup_bits, many_at};
+ghost use Rattle.recording.specs.Record.{all_entries, all_zero, max_entries, max_events, max_stations};
 
 use crate::fault::ReadFault;
 use bits::cursor::BitCursor;
