@@ -22,47 +22,49 @@ pub loop-length-init : goal.loop-length-init
 loop-length-init c = record {
   moved = grind (arith, common_steps);
   few = grind arith;
-  so_far = ([], refl, refl, grind (arith, many_steps), none_yet _ 8 _ c.requires.few c.requires.lengths, c.requires.entries ∙ sym (padded_none 4096 0));
+  ls = [];
+  count = refl;
+  end = refl;
+  whole = grind (arith, many_steps);
+  lengths = none_yet _ 8 _ c.requires.few c.requires.lengths;
+  entries = c.requires.entries ∙ sym (padded_none 4096 0);
 }
 
 pub returns-in_err-length-clause-reading : goal.returns-in_err-length-clause-reading
 returns-in_err-length-clause-reading c =
     let r = err_from_is_err_and c.from_residual.result c.from_residual.ensures.1 in
-    let whole = c.loop-length.invariant.so_far.3 in
+    let so_far = c.loop-length.invariant in
     ([], rw (r.1, r.2) (grind (arith, many_steps)), rw r.1 tt)
 
 pub loop-length-preserved : goal.loop-length-preserved
 loop-length-preserved c =
-    let inv = c.loop-length.invariant in
-    let ls = inv.so_far.0 in
+    let so_far = c.loop-length.invariant in
+    let ls = so_far.ls in
     let i = c.loop-length.length-index in
     let n = c.in_ok-length.field-0 in
     let slots = c.read_lineup.new.slots in
     let l = take n slots in
     let rest = c.in_ok-length.ensures.rest in
-    let m : length l ≡ n = length-take n slots ∙ omega arith in
+    let here : length l ≡ n = length-take n slots ∙ omega arith in
+    let now : slots ≡ l ++ drop n _ = sym (take-append-drop n slots) ∙ ap (λ (x : List ℕ). l ++ x) rest.1 in
     let flat : flat_map (λ x. x) (ls ++ l ∷ []) ≡ flat_map (λ x. x) ls ++ l = sym (flat_map_more (λ x. x) [] ls l) in
-    let count : length (map (λ (x : List ℕ). length x) ls) ≡ i = length-map ls (λ x. length x) ∙ inv.so_far.1 in
+    let count : length (map (λ (x : List ℕ). length x) ls) ≡ i = length-map ls (λ x. length x) ∙ so_far.count in
     record {
       moved = grind (arith, common_steps);
       few = grind arith;
-      so_far = (
-        ls ++ l ∷ [],
-        simp length-append (omega (arith, inv.so_far.1)),
-        rw flat (simp length-append (omega (arith, inv.so_far.2))),
-        (let whole = inv.so_far.3 in grind (arith, many_steps)),
-        rw (inv.so_far.4, map_push, m) (padded_more c.args.stations 0 _ i n count (omega arith)),
-        rw flat (padded_splice 4096 0 _ l slots c.loop-length.entries c.loop-length.start n inv.so_far.5 inv.so_far.2 m (omega arith) (sym (take-append-drop n slots) ∙ ap (λ (x : List ℕ). l ++ x) rest.1)),
-      );
+      ls = ls ++ l ∷ [];
+      count = simp length-append (omega arith);
+      end = rw flat (simp length-append (omega arith));
+      whole = grind (arith, many_steps);
+      lengths = rw (so_far.lengths, map_push, here) (padded_more c.args.stations 0 _ i n count (omega arith));
+      entries = rw flat (padded_splice 4096 0 _ l slots c.loop-length.entries c.loop-length.start n so_far.entries so_far.end here (omega arith) now);
     }
 
 pub returns-clause-reading : goal.returns-clause-reading
 returns-clause-reading c =
-    let so_far = c.loop-length.invariant.so_far in (
-      so_far.0,
-      (let whole = so_far.3 in grind (arith, many_steps)),
-      record {
-        lengths_are = all_now c.args.stations 8 _ _ _ (length-map so_far.0 (λ x. length x) ∙ omega (arith, so_far.1, length-take {A = ℕ})) so_far.4 c.requires.lengths;
-        entries_are = so_far.5;
-      },
+    let so_far = c.loop-length.invariant in
+    let count : length (map (λ (x : List ℕ). length x) so_far.ls) ≡ c.args.stations = length-map so_far.ls (λ x. length x) ∙ omega (arith, length-take {A = ℕ}) in (
+      so_far.ls,
+      grind (arith, many_steps),
+      record { lengths_are = all_now _ 8 _ _ _ count so_far.lengths c.requires.lengths; entries_are = so_far.entries },
     )

@@ -11,8 +11,10 @@ invariant-loop-length l =
     record {
       moved : Moved l.initial.cursor l.cursor (lineup_bits * l.length-index);
       few : l.start ≤ max_entries * l.length-index;
-      so_far : (ls : List (List ℕ)) × (length ls ≡ l.length-index) × (length (flat_map (λ x. x) ls) ≡ l.start)
-          × (many_at lineup l.stations l.initial.cursor.place ≡ after ls (many_at lineup (l.stations - l.length-index) l.cursor.place))
-          × (l.length-items ≡ padded l.stations 0 (map (λ x. length x) ls))
-          × (l.entries ≡ padded all_entries 0 (flat_map (λ x. x) ls));
+      ls : List (List ℕ);
+      count : length ls ≡ l.length-index;
+      end : length (flat_map (λ x. x) ls) ≡ l.start;
+      whole : many_at lineup l.stations l.initial.cursor.place ≡ after ls (many_at lineup (l.stations - l.length-index) l.cursor.place);
+      lengths : l.length-items ≡ padded l.stations 0 (map (λ x. length x) ls);
+      entries : l.entries ≡ padded all_entries 0 (flat_map (λ x. x) ls);
     }
