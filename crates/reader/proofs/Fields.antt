@@ -19,5 +19,4 @@ pub record Within (bs : List ℕ) (p w lo hi v q : ℕ) : Type 0 where
 
 pub field_within : (bs : List ℕ) (p w lo hi v q : ℕ) → field_at bs p w lo hi ≡ Ok (v, q) → Within bs p w lo hi v q
 unfolding field_at ranged
-field_within bs p w lo hi v q h =
-    grind (arith, nat_tests)
+field_within bs p w lo hi v q h = grind (arith, nat_tests)

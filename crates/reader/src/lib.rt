@@ -184,7 +184,7 @@ fn read_lineups(
         × Gives (λ _. (ls, cursor.new.place)) result (many_at (lineup_at cursor.old.bytes.now) stations cursor.old.place)
         × OnOk result (Placed ls lengths.new entries.new)) }
 {
-    // A count of the entries so far, as after a loop that shortens a `&mut` of them the proof knows none of them.
+    // Not a `&mut` of the entries that each turn shortens: after such a loop the proof knows nothing of them.
     let mut start = 0;
     for length in &mut lengths[..stations as usize] {
         *length = read_lineup(cursor, &mut entries[start..])?;
