@@ -12,10 +12,13 @@ use Rattle.reader.specs.declared.Header.{Header}
 use Rattle.recording.specs.declared.record.Event.{Event}
 use Rattle.recording.specs.declared.record.Recording.{Recording}
 use Rattle.recording.specs.Layout.{bits, span, Laid, header_fields, event_fields, lineup_fields, record_fields, gap, IsFile}
-use Rattle.reader.specs.Reading.{Faulty, Holds, decode, event_at, filling_at, header_at, header_of, lineup_at, many_at, record_of}
+use Rattle.reader.specs.Faults.{read_told}
+use Rattle.reader.specs.declared.fault.ReadFault.{ReadFault}
+use Rattle.std.specs.Prelude.{MatchResult}
+use Rattle.reader.specs.Reading.{Faulty, Gives, Holds, decode, event_at, filling_at, header_at, header_of, lineup_at, many_at, record_of}
 use Rattle.recording.specs.Record.{EventOk, Limits, all_entries, lineups_of, max_code, max_events, max_stations, no_event, padded, used_entries, used_events, used_lengths}
-use Rattle.reader.proofs.Fields.{field_within}
-use Rattle.reader.proofs.Stands.{Stands, event_back, event_stands, field_back, field_stands, lineup_back, lineup_stands, many_back, many_stands, stands_append}
+use Rattle.reader.proofs.Fields.{field_back, field_within}
+use Rattle.reader.proofs.Stands.{Stands, event_back, event_stands, field_stands, lineup_back, lineup_stands, many_back, many_stands, stands_append}
 use Rattle.recording.proofs.Ranges.{not_both, ok_parts, same_ok}
 use Rattle.recording.proofs.Layouts.{laid_parts, span_append}
 use Rattle.recording.proofs.Lineups.{LineupOk, all_flat, all_lengths, all_parts, flat, flat_parts, full_entries, full_events, full_lineups, lengths, lengths_parts, parts_flat, total_lengths}
@@ -219,3 +222,9 @@ holds bs r h =
 
 pub faulty : (bs : List ℕ) (t : Told) → decode bs ≡ Err t → Faulty bs t
 faulty bs t h = record { decoded = h; none = λ x o f. not_both x t (sym (file_decoded bs x o f) ∙ h) }
+
+-- what the result of reading a whole file says
+pub read_whole : {X : Type 0} (bs : List ℕ) (r : Recording) (result : Result X ReadFault) → Gives (λ (_ : X). r) result (decode bs)
+    → MatchResult result (λ _. Holds bs r) (λ e. Faulty bs (read_told e))
+read_whole bs r (Ok x) h = holds bs r h
+read_whole bs r (Err e) h = faulty bs (read_told e) h

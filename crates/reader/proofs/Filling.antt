@@ -4,7 +4,7 @@ use Rattle.std.proofs.lemmas.Bool.{ne_eqb, leb-true, leb-false, lt-ltb, le-ltb}
 use Rattle.bits.specs.Bits.{bit_at, spelled}
 use Rattle.bits.specs.Told.{told}
 use Rattle.bits.specs.declared.told.Place.TheVariants.{AtBit}
-use Rattle.bits.proofs.Spells.{spelled_one}
+pub use Rattle.bits.proofs.Spells.{spelled_one}
 use Rattle.recording.specs.Layout.{gap}
 use Rattle.reader.specs.Reading.{filling_at}
 
@@ -36,3 +36,6 @@ module _ (bs : List ℕ) (p : ℕ) where
   pub filling_done : p % 8 ≡ 0 → leb (8 * length bs) p ≡ true → filling_at bs p (gap p) ≡ Ok p
   unfolding filling_at
   filling_done h e = let l : 8 * length bs ≤ p = leb-true _ _ e in rw (gap_none p h, le-ltb p (8 * length bs) l)
+
+-- what the loop uses
+pub ruleset filling_steps = (gap_most, gap_more, spelled_one, filling_more, filling_bad, filling_over, filling_done)

@@ -2,4 +2,5 @@ mod Fields
 mod Files
 mod Filling
 mod Many
+mod Slots
 mod Stands

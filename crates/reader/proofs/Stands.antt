@@ -2,7 +2,6 @@
 use Rattle.std.proofs.Common.{◌≡◌, ℕ, zero, suc, ◌+◌, ◌-◌, ◌*◌, ◌<◌, ◌≤◌, Bool, true, false, cond, List, [], ◌∷◌, ◌++◌, length, Ok, sym, refl, ap, subst, add-zero, add_assoc, arith, lit≤}
 use Rattle.std.specs.List.{flat_map}
 use Rattle.std.proofs.lemmas.Bool.{both_ways}
-use Rattle.bits.specs.Bits.{spelled}
 use Rattle.recording.specs.declared.record.Event.{Event}
 use Rattle.recording.specs.declared.record.EventKind.{EventKind}
 use Rattle.recording.specs.declared.record.EventKind.TheVariants.{PostCalled, DrawCalled, PostAnswered, DrawAnswered, DrawEmpty}
@@ -13,7 +12,7 @@ use Rattle.recording.proofs.Layouts.{kind_most, laid_append, laid_parts, span_ap
 use Rattle.recording.proofs.Lineups.{LineupOk}
 use Rattle.recording.proofs.Ranges.{ok_parts, same_ok}
 use Rattle.reader.specs.Reading.{Reading, entry_at, event_at, field_at, kind_of, lineup_at, many_at}
-use Rattle.reader.proofs.Fields.{field_in, field_within}
+use Rattle.reader.proofs.Fields.{field_back, field_within}
 
 -- the fields fs stand from bit p up to bit q
 pub record Stands (bs : List ℕ) (p q : ℕ) (fs : List Field) : Type 0 where
@@ -42,9 +41,6 @@ unfolding span Laid
 field_stands bs p w lo hi v q h =
     let a = field_within bs p w lo hi v q h in
     record { laid = (sym a.spells, tt); end = omega (arith, a.end); room = a.room }
-
-pub field_back : (bs : List ℕ) (p w lo hi v : ℕ) → spelled bs p w ≡ v → p + w ≤ 8 * length bs → lo ≤ v → v ≤ hi → field_at bs p w lo hi ≡ Ok (v, p + w)
-field_back bs p w lo hi v h r l m = field_in bs p w lo hi r v (sym h) l m (p + w) refl
 
 -- ---- many items
 
@@ -135,31 +131,28 @@ event_stands bs st some p e q h =
     let b = ok_parts _ _ _ a.2 in
     either bs st p a.0.0 a.0.1 b.0.0 b.0.1 some a.1 b.1 (e, q) (carries (kind_of a.0.0)) refl b.2
 
-event_back_by : (bs : List ℕ) (st p : ℕ) (e : Event) (c : Bool) → carries e.kind ≡ c → 1 ≤ st → EventOk st e → Laid bs p (event_fields e)
-    → p + span (event_fields e) ≤ 8 * length bs → event_at bs st p ≡ Ok (e, p + span (event_fields e))
-unfolding event_at event_fields Laid span
-event_back_by bs st p e true y some o l r =
-    let l' = rw y at l in
-    let r' = rw y at r in
-    let k = kind_code e.kind in
-    let a = field_back bs p 3 0 4 (number_of e.kind) l'.0 (omega arith) (omega arith) (kind_most e.kind) in
-    let b = field_back bs (p + 3) 3 0 (st - 1) e.station l'.1.0 (omega arith) (omega arith) (omega (arith, o.station)) in
-    let d = field_back bs (p + 3 + 3) 12 0 max_order e.order l'.1.1.0 (omega arith) (omega arith) o.order in
-    let q : p + (3 + (3 + (12 + 0))) ≡ p + 3 + 3 + 12 = omega arith in
-    rw (a, b, k, y, d, q)
-event_back_by bs st p e false y some o l r =
-    let l' = rw y at l in
-    let r' = rw y at r in
-    let k = kind_code e.kind in
-    let z = o.uncarried y in
-    let a = field_back bs p 3 0 4 (number_of e.kind) l'.0 (omega arith) (omega arith) (kind_most e.kind) in
-    let b = field_back bs (p + 3) 3 0 (st - 1) e.station l'.1.0 (omega arith) (omega arith) (omega (arith, o.station)) in
-    let q : p + (3 + (3 + 0)) ≡ p + 3 + 3 = omega arith in
-    rw (a, b, k, y, q) (ap (λ (x : ℕ). Ok (event e.kind e.station x, p + 3 + 3)) (sym z))
-
 pub event_back : (bs : List ℕ) (st : ℕ) → 1 ≤ st → (p : ℕ) (e : Event) → EventOk st e → Laid bs p (event_fields e)
     → p + span (event_fields e) ≤ 8 * length bs → event_at bs st p ≡ Ok (e, p + span (event_fields e))
-event_back bs st some p e o l r = event_back_by bs st p e (carries e.kind) refl some o l r
+unfolding event_at event_fields Laid span
+event_back bs st some p e o l r =
+    let k = kind_code e.kind in
+    let a = field_back bs p 3 0 4 (number_of e.kind) l.0 (omega arith) (omega arith) (kind_most e.kind) in
+    let b = field_back bs (p + 3) 3 0 (st - 1) e.station l.1.0 (omega arith) (omega arith) (omega (arith, o.station)) in
+    rw (a, b, k) (by_case (carries e.kind) refl)
+  where
+    by_case : (c : Bool) → carries e.kind ≡ c
+        → cond c (and_then {Y = Event × ℕ} (field_at bs (p + 3 + 3) 12 0 max_order) (λ x. Ok (event e.kind e.station x.0, x.1))) (Ok (event e.kind e.station 0, p + 3 + 3))
+        ≡ Ok (e, p + span (event_fields e))
+    by_case true y =
+        let l' = rw y at l in
+        let r' = rw y at r in
+        let d = field_back bs (p + 3 + 3) 12 0 max_order e.order l'.1.1.0 (omega arith) (omega arith) o.order in
+        let q : p + (3 + (3 + (12 + 0))) ≡ p + 3 + 3 + 12 = omega arith in
+        rw (y, d, q)
+    by_case false y =
+        let z = o.uncarried y in
+        let q : p + (3 + (3 + 0)) ≡ p + 3 + 3 = omega arith in
+        rw (y, q) (ap (λ (x : ℕ). Ok (event e.kind e.station x, p + 3 + 3)) (sym z))
 
 -- ---- a line-up
 

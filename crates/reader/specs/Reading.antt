@@ -1,11 +1,14 @@
 -- What the bytes of a file hold, field by field, or the first fault in the file's sequence: a field is first completed
 -- (1, at its first bit, where the bytes end before), then its range is tried (2, at its first bit), then the next.
-use Rattle.std.specs.Prelude.{◌≡◌, ℕ, zero, suc, ◌+◌, ◌-◌, ◌*◌, cond, List, [], ◌∷◌, map, length, Ok, Err, Result, ◌==◌, nat_le, nat_lt}
+use Rattle.std.specs.Prelude.{◌≡◌, ℕ, zero, suc, ◌+◌, ◌-◌, ◌*◌, ◌≤◌, cond, List, [], ◌∷◌, map, length, Ok, Err, Result, ◌==◌, nat_le, nat_lt}
 use Rattle.std.specs.List.{flat_map}
 use Rattle.bits.specs.Bits.{bit_at, spelled}
 use Rattle.bits.specs.Told.{told}
 use Rattle.bits.specs.declared.told.Place.TheVariants.{AtBit}
+use Rattle.bits.specs.declared.cursor.BitCursor.{BitCursor}
 use Rattle.bits.specs.declared.told.Told.{Told}
+use Rattle.reader.specs.Faults.{read_told}
+use Rattle.reader.specs.declared.fault.ReadFault.{ReadFault}
 use Rattle.reader.specs.declared.Header.{Header}
 use Rattle.recording.specs.declared.record.Event.{Event}
 use Rattle.recording.specs.declared.record.EventKind.{EventKind}
@@ -18,6 +21,24 @@ use Rattle.recording.specs.Record.{Limits, all_entries, carries, event, max_call
 -- what was read and the bit after it, or the fault
 abbrev pub Reading : Type 0 → Type 0
 Reading A = Result (A × ℕ) Told
+
+-- what a function returned, its value seen by view, is what the reading gives
+abbrev pub Gives : {X Y : Type 0} → (X → Y) → Result X ReadFault → Result Y Told → Type 0
+Gives view (Ok x) reading = reading ≡ Ok (view x)
+Gives view (Err e) reading = reading ≡ Err (read_told e)
+
+-- a cursor stays over its bytes, and moves on by so many bits at the most
+pub record Moved (old new : BitCursor) (most : ℕ) : Type 0 where
+  pub bytes : new.bytes.now ≡ old.bytes.now
+  pub near : new.place ≤ old.place + most
+
+-- the most bits of an event or an entry
+abbrev pub item_bits : ℕ
+item_bits = 18
+
+-- the most bits of a line-up, where each entry is counted as an item
+abbrev pub lineup_bits : ℕ
+lineup_bits = 10 + item_bits * max_entries
 
 -- the field of w bits from bit p on, a number from lo to hi
 unfoldable pub field_at : List ℕ → ℕ → ℕ → ℕ → ℕ → Reading ℕ
@@ -67,6 +88,11 @@ lineup_at bs p = and_then (field_at bs p 10 0 max_entries) (λ n. many_at (entry
 unfoldable pub filling_at : List ℕ → ℕ → ℕ → Result ℕ Told
 filling_at bs p zero = cond (nat_lt p (8 * length bs)) (Err (told 3 (AtBit p))) (Ok p)
 filling_at bs p (suc n) = cond (bit_at bs p == 0) (filling_at bs (p + 1) n) (Err (told 3 (AtBit p)))
+
+-- the line-ups stand one after the other in the entries, their lengths in the lengths, and the other places hold zero
+pub record Placed (ls : List (List ℕ)) (lengths entries : List ℕ) : Type 0 where
+  pub lengths_are : lengths ≡ padded max_stations 0 (map (λ l. length l) ls)
+  pub entries_are : entries ≡ padded all_entries 0 (flat_map (λ l. l) ls)
 
 -- the record of a header, events and line-ups
 abbrev pub record_of : Header → List Event → List (List ℕ) → Recording

@@ -1,19 +1,18 @@
 //! The reader of recordings: a file's bytes into a record.
 //!
 //! The functions that read fields ask that the cursor's place is below a power of two that leaves room for all that they
-//! read, so that no sum of places can wrap, and ensure how far they move the cursor at the most (`near`). `read` starts at
-//! bit 0.
+//! read, so that no sum of places can wrap, and ensure how far they move the cursor at the most (`moved`), and that their
+//! result is what the definition of that part of a file gives (`reading`). `read` starts at bit 0.
 #![tactic(auto)]
 
 pub mod fault;
 
-ghost use Rattle.std.specs.Prelude.{◌≡◌, ℕ, ◌+◌, ◌-◌, ◌*◌, ◌^◌, ◌<◌, ◌≤◌, List, ◌++◌, map, length, drop, replicate, Ok, Err, MatchResult};
+ghost use Rattle.std.specs.Prelude.{◌≡◌, ℕ, ◌*◌, ◌^◌, ◌<◌, ◌≤◌, List, length, take, drop, replicate, IfOk, OnOk, MatchResult};
 ghost use Rattle.bits.specs.Widths.{bits_of};
 ghost use Rattle.reader.specs.Faults.{read_told};
 ghost use Rattle.recording.specs.Layout.{gap};
-ghost use Rattle.reader.specs.Reading.{Faulty, Holds, entry_at, event_at, field_at, filling_at, header_at, kind_of, lineup_at, many_at};
-ghost use Rattle.recording.specs.Record.{all_entries, all_zero, max_entries, max_events, max_stations, padded};
-ghost use Rattle.std.specs.List.{flat_map};
+ghost use Rattle.reader.specs.Reading.{Faulty, Gives, Holds, Moved, Placed, Reading, decode, entry_at, event_at, field_at, filling_at, header_at, item_bits, kind_of, lineup_at, lineup_bits, many_at};
+ghost use Rattle.recording.specs.Record.{all_entries, all_zero, max_entries, max_events, max_stations};
 
 use crate::fault::ReadFault;
 use bits::cursor::BitCursor;
@@ -37,14 +36,13 @@ struct Header {
 }
 
 /// The next field, a number from `low` to `high`.
+#[tactic(auto, unfolding(crate::specs::Reading::field_at, recording::specs::Ranges::ranged))]
 fn field(cursor: &mut BitCursor, width: Width, low: u16, high: u16) -> Result<u16, ReadFault>
     requires { cursor.old.place < 2 ^ 60 }
-    ensures bytes { cursor.new.bytes.now ≡ cursor.old.bytes.now }
-    ensures near { cursor.new.place ≤ cursor.old.place + bits_of width }
-    ensures result { MatchResult result
-        (λ v. (field_at cursor.old.bytes.now cursor.old.place (bits_of width) low high ≡ Ok (v, cursor.new.place))
-        × (low ≤ v) × (v ≤ high))
-        (λ e. field_at cursor.old.bytes.now cursor.old.place (bits_of width) low high ≡ Err (read_told e)) }
+    ensures moved { Moved cursor.old cursor.new (bits_of width) }
+    ensures reading { Gives (λ v. (v, cursor.new.place)) result
+        (field_at cursor.old.bytes.now cursor.old.place (bits_of width) low high) }
+    ensures range { IfOk result (λ v. (low ≤ v) × (v ≤ high)) }
 {
     let bit = cursor.place();
     let taken = cursor.take(width)?;
@@ -52,14 +50,12 @@ fn field(cursor: &mut BitCursor, width: Width, low: u16, high: u16) -> Result<u1
 }
 
 /// The edition, the code, the stations and the event count.
+#[tactic(auto, unfolding(crate::specs::Reading::header_at))]
 fn read_header(cursor: &mut BitCursor) -> Result<Header, ReadFault>
     requires { cursor.old.place < 2 ^ 59 }
-    ensures bytes { cursor.new.bytes.now ≡ cursor.old.bytes.now }
-    ensures near { cursor.new.place ≤ cursor.old.place + 23 }
-    ensures result { MatchResult result
-        (λ h. (header_at cursor.old.bytes.now cursor.old.place ≡ Ok (h, cursor.new.place))
-        × (1 ≤ h.stations) × (h.stations ≤ max_stations) × (h.count ≤ max_events))
-        (λ e. header_at cursor.old.bytes.now cursor.old.place ≡ Err (read_told e)) }
+    ensures moved { Moved cursor.old cursor.new 23 }
+    ensures reading { Gives (λ h. (h, cursor.new.place)) result (header_at cursor.old.bytes.now cursor.old.place) }
+    ensures range { IfOk result (λ h. (h.stations ≤ max_stations) × (h.count ≤ max_events)) }
 {
     field(cursor, EDITION_WIDTH, EDITION, EDITION)?;
     let code = field(cursor, CODE_WIDTH, 0, MAX_CODE)?;
@@ -85,77 +81,90 @@ fn kind_of(number: u16) -> EventKind
     }
 }
 
-/// The next event of a recording with so many stations.
-fn read_event(cursor: &mut BitCursor, stations: u16) -> Result<Event, ReadFault>
-    requires stations { 1 ≤ stations }
-    requires countable { cursor.old.place < 2 ^ 59 }
-    ensures bytes { cursor.new.bytes.now ≡ cursor.old.bytes.now }
-    ensures near { cursor.new.place ≤ cursor.old.place + 18 }
-    ensures result { MatchResult result
-        (λ v. event_at cursor.old.bytes.now stations cursor.old.place ≡ Ok (v, cursor.new.place))
-        (λ e. event_at cursor.old.bytes.now stations cursor.old.place ≡ Err (read_told e)) }
-{
-    let number = field(cursor, KIND_WIDTH, 0, MAX_KIND)?;
-    let station = field(cursor, STATION_WIDTH, 0, stations - 1)?;
-    let kind = kind_of(number);
-    let order = if kind.carries_order() {
-        field(cursor, ORDER_WIDTH, 0, MAX_ORDER)?
-    } else {
-        0
-    };
-    Ok(Event {
-        kind,
-        station,
-        order,
-    })
+/// Items of one kind, which a file holds one after the other.
+trait Items {
+    type Item: Copy;
+
+    /// The item that stands in a file's bytes from a bit on.
+    ghost at: { Self → List ℕ → ℕ → Reading Self.Item };
+
+    /// The next item.
+    fn read_one(&self, cursor: &mut BitCursor) -> Result<Self::Item, ReadFault>
+        requires { cursor.old.place < 2 ^ 59 }
+        ensures moved { Moved cursor.old cursor.new item_bits }
+        ensures reading { Gives (λ v. (v, cursor.new.place)) result
+            (at self.now cursor.old.bytes.now cursor.old.place) };
+
+    /// As many items as there are slots.
+    #[tactic(auto, using(crate::proofs::Many::many_steps))]
+    fn read_all(&self, cursor: &mut BitCursor, slots: &mut [Self::Item]) -> Result<(), ReadFault>
+        requires few { length slots.old ≤ max_events }
+        requires countable { cursor.old.place < 2 ^ 58 }
+        ensures moved { Moved cursor.old cursor.new (item_bits * length slots.old) }
+        ensures reading { Gives (λ _. (slots.new, cursor.new.place)) result
+            (many_at (at self.now cursor.old.bytes.now) (length slots.old) cursor.old.place) }
+    {
+        for slot in slots.iter_mut() {
+            *slot = self.read_one(cursor)?;
+        }
+        Ok(())
+    }
 }
 
-/// As many events as there are slots.
-fn read_events(cursor: &mut BitCursor, stations: u16, slots: &mut [Event]) -> Result<(), ReadFault>
-    requires stations { 1 ≤ stations }
-    requires few { length slots.old ≤ max_events }
-    requires countable { cursor.old.place < 2 ^ 58 }
-    ensures bytes { cursor.new.bytes.now ≡ cursor.old.bytes.now }
-    ensures near { cursor.new.place ≤ cursor.old.place + 18 * length slots.old }
-    ensures result { MatchResult result
-        (λ _. many_at (event_at cursor.old.bytes.now stations) (length slots.old) cursor.old.place ≡ Ok (slots.new, cursor.new.place))
-        (λ e. many_at (event_at cursor.old.bytes.now stations) (length slots.old) cursor.old.place ≡ Err (read_told e)) }
-{
-    for slot in slots.iter_mut() {
-        *slot = read_event(cursor, stations)?;
-    }
-    Ok(())
+/// The events of a recording with so many stations.
+#[derive(Clone, Copy)]
+struct Events {
+    stations: u16,
 }
 
-/// As many entries as there are slots.
-fn read_entries(cursor: &mut BitCursor, slots: &mut [u16]) -> Result<(), ReadFault>
-    requires few { length slots.old ≤ max_entries }
-    requires countable { cursor.old.place < 2 ^ 58 }
-    ensures bytes { cursor.new.bytes.now ≡ cursor.old.bytes.now }
-    ensures near { cursor.new.place ≤ cursor.old.place + 9 * length slots.old }
-    ensures result { MatchResult result
-        (λ _. many_at (entry_at cursor.old.bytes.now) (length slots.old) cursor.old.place ≡ Ok (slots.new, cursor.new.place))
-        (λ e. many_at (entry_at cursor.old.bytes.now) (length slots.old) cursor.old.place ≡ Err (read_told e)) }
-{
-    for slot in slots.iter_mut() {
-        *slot = field(cursor, ENTRY_WIDTH, 0, MAX_CALL)?;
+impl Items for Events {
+    type Item = Event;
+
+    ghost at = { λ s bytes. event_at bytes s.stations };
+
+    #[tactic(auto, unfolding(crate::specs::Reading::event_at))]
+    fn read_one(&self, cursor: &mut BitCursor) -> Result<Event, ReadFault> {
+        let number = field(cursor, KIND_WIDTH, 0, MAX_KIND)?;
+        let station = field(cursor, STATION_WIDTH, 0, self.stations.saturating_sub(1))?;
+        let kind = kind_of(number);
+        let order = if kind.carries_order() {
+            field(cursor, ORDER_WIDTH, 0, MAX_ORDER)?
+        } else {
+            0
+        };
+        Ok(Event {
+            kind,
+            station,
+            order,
+        })
     }
-    Ok(())
+}
+
+/// The entries of a line-up.
+#[derive(Clone, Copy)]
+struct Entries;
+
+impl Items for Entries {
+    type Item = u16;
+
+    ghost at = { λ _ bytes. entry_at bytes };
+
+    fn read_one(&self, cursor: &mut BitCursor) -> Result<u16, ReadFault> {
+        field(cursor, ENTRY_WIDTH, 0, MAX_CALL)
+    }
 }
 
 /// The next line-up, into the front of the slots; tells its length.
+#[tactic(auto, unfolding(crate::specs::Reading::lineup_at))]
 fn read_lineup(cursor: &mut BitCursor, slots: &mut [u16]) -> Result<u16, ReadFault>
     requires room { max_entries ≤ length slots.old }
     requires countable { cursor.old.place < 2 ^ 57 }
-    ensures bytes { cursor.new.bytes.now ≡ cursor.old.bytes.now }
-    ensures near { cursor.new.place ≤ cursor.old.place + (10 + 9 * max_entries) }
-    ensures result { MatchResult result
-        (λ n. (n ≤ max_entries) × ((l : List ℕ) × (lineup_at cursor.old.bytes.now cursor.old.place ≡ Ok (l, cursor.new.place))
-        × (length l ≡ n) × (slots.new ≡ l ++ drop n slots.old)))
-        (λ e. lineup_at cursor.old.bytes.now cursor.old.place ≡ Err (read_told e)) }
+    ensures moved { Moved cursor.old cursor.new lineup_bits }
+    ensures reading { Gives (λ n. (take n slots.new, cursor.new.place)) result (lineup_at cursor.old.bytes.now cursor.old.place) }
+    ensures rest { IfOk result (λ n. (n ≤ max_entries) × (drop n slots.new ≡ drop n slots.old)) }
 {
     let length = field(cursor, LENGTH_WIDTH, 0, MAX_ENTRIES as u16)?;
-    read_entries(cursor, &mut slots[0..length as usize])?;
+    Entries.read_all(cursor, &mut slots[..length as usize])?;
     Ok(length)
 }
 
@@ -170,34 +179,29 @@ fn read_lineups(
     requires lengths { lengths.old ≡ replicate max_stations 0 }
     requires entries { entries.old ≡ replicate all_entries 0 }
     requires countable { cursor.old.place < 2 ^ 56 }
-    ensures bytes { cursor.new.bytes.now ≡ cursor.old.bytes.now }
-    ensures near { cursor.new.place ≤ cursor.old.place + max_stations * (10 + 9 * max_entries) }
-    ensures result { MatchResult result
-        (λ _. ((ls : List (List ℕ)) × (many_at (lineup_at cursor.old.bytes.now) stations cursor.old.place ≡ Ok (ls, cursor.new.place))
-        × (lengths.new ≡ padded max_stations 0 (map (λ l. length l) ls))
-        × (entries.new ≡ padded all_entries 0 (flat_map (λ l. l) ls))))
-        (λ e. many_at (lineup_at cursor.old.bytes.now) stations cursor.old.place ≡ Err (read_told e)) }
+    ensures moved { Moved cursor.old cursor.new (max_stations * lineup_bits) }
+    ensures reading { ((ls : List (List ℕ))
+        × Gives (λ _. (ls, cursor.new.place)) result (many_at (lineup_at cursor.old.bytes.now) stations cursor.old.place)
+        × OnOk result (Placed ls lengths.new entries.new)) }
 {
+    // Not a `&mut` of the entries that each turn shortens: after such a loop the proof knows nothing of them.
     let mut start = 0;
-    for station in 0..stations as usize {
-        let length = read_lineup(cursor, &mut entries[start..ALL_ENTRIES])?;
-        lengths[station] = length;
-        start += length as usize;
+    for length in &mut lengths[..stations as usize] {
+        *length = read_lineup(cursor, &mut entries[start..])?;
+        start += *length as usize;
     }
     Ok(())
 }
 
 /// The filling bits, and no byte after them.
+#[tactic(auto, using(crate::proofs::Filling::filling_steps))]
 fn read_filling(cursor: &mut BitCursor) -> Result<(), ReadFault>
     requires { cursor.old.place < 2 ^ 59 }
-    ensures { MatchResult result
-        (λ _. ((q : ℕ) × (filling_at cursor.old.bytes.now cursor.old.place (gap cursor.old.place) ≡ Ok q)))
-        (λ e. filling_at cursor.old.bytes.now cursor.old.place (gap cursor.old.place) ≡ Err (read_told e)) }
+    ensures { Gives (λ _. cursor.new.place) result (filling_at cursor.old.bytes.now cursor.old.place (gap cursor.old.place)) }
 {
     while cursor.place() % 8 != 0 {
         let bit = cursor.place();
-        let filler = cursor.take(FILLING_WIDTH)?;
-        if filler != 0 {
+        if cursor.take(FILLING_WIDTH)? != 0 {
             return Err(ReadFault::Filling { bit });
         }
     }
@@ -209,27 +213,38 @@ fn read_filling(cursor: &mut BitCursor) -> Result<(), ReadFault>
     Ok(())
 }
 
-/// The whole file, into a record that is zero throughout.
+/// The fields of a recording, into a record that is zero throughout.
+#[tactic(auto, using(crate::proofs::Slots::slots_steps), unfolding(crate::specs::Reading::decode))]
+fn read_recording(cursor: &mut BitCursor, recording: &mut Recording) -> Result<(), ReadFault>
+    requires start { cursor.old.place ≡ 0 }
+    requires zero { recording.old ≡ all_zero }
+    ensures { Gives (λ _. recording.new) result (decode cursor.old.bytes.now) }
+{
+    let header = read_header(cursor)?;
+    let stations = header.stations;
+    recording.code = header.code;
+    recording.stations = stations;
+    recording.count = header.count;
+    let events = &mut recording.events[..header.count as usize];
+    Events { stations }.read_all(cursor, events)?;
+    read_lineups(
+        cursor,
+        stations,
+        &mut recording.lengths,
+        &mut recording.entries,
+    )?;
+    read_filling(cursor)?;
+    Ok(())
+}
+
+/// The whole file, into a record that is first made zero throughout.
 fn fill(bytes: &[u8], recording: &mut Recording) -> Result<(), ReadFault>
-    requires { recording.old ≡ all_zero }
     ensures { MatchResult result
         (λ _. Holds bytes.now recording.new)
         (λ e. Faulty bytes.now (read_told e)) }
 {
-    let mut cursor = BitCursor::new(bytes);
-    let header = read_header(&mut cursor)?;
-    recording.code = header.code;
-    recording.stations = header.stations;
-    recording.count = header.count;
-    let events = &mut recording.events[0..header.count as usize];
-    read_events(&mut cursor, header.stations, events)?;
-    read_lineups(
-        &mut cursor,
-        header.stations,
-        &mut recording.lengths,
-        &mut recording.entries,
-    )?;
-    read_filling(&mut cursor)
+    *recording = Recording::zero();
+    read_recording(&mut BitCursor::new(bytes), recording)
 }
 
 /// Reads a file into a record. A refused reading leaves the record zero throughout.
@@ -238,7 +253,6 @@ pub fn read(bytes: &[u8], recording: &mut Recording) -> Result<(), ReadFault>
         (λ _. Holds bytes.now recording.new)
         (λ e. Faulty bytes.now (read_told e) × (recording.new ≡ all_zero)) }
 {
-    *recording = Recording::zero();
     let result = fill(bytes, recording);
     if result.is_err() {
         *recording = Recording::zero();
