@@ -2,6 +2,7 @@
 use Rattle.std.proofs.Common.{◌≡◌, ℕ, zero, suc, ◌+◌, ◌*◌, ◌<◌, ◌≤◌, cond, eqb, ltb, List, [], ◌∷◌, ◌++◌, map, length, Ok, Err, Result, sym, refl, ap, ◌∙◌, subst, inl, inr, add-zero, arith}
 use Rattle.std.specs.List.{flat_map}
 use Rattle.std.proofs.lemmas.List.{length-map}
+use Rattle.std.proofs.lemmas.List.Elements.{All-from_recursion, recursion_from_All}
 use Rattle.std.proofs.lemmas.Bool.{cases_eq, le-ltb}
 use Rattle.std.proofs.lemmas.Bool.Decides.{nat_tests}
 use Rattle.bits.specs.Bits.{bit_at, spelled}
@@ -139,9 +140,9 @@ module _ (bs : List ℕ) (h : Header) (p1 : ℕ) (es : List Event) (p2 : ℕ) (l
             some = sh.2;
             stations = sh.3;
             count = sh.4;
-            events = rw ue se.1;
-            lengths = rw un (all_lengths ls sl.1);
-            entries = rw uc (all_flat ls sl.1);
+            events = rw ue (All-from_recursion _ _ se.1);
+            lengths = rw un (All-from_recursion _ _ (all_lengths ls sl.1));
+            entries = rw uc (All-from_recursion _ _ (all_flat ls sl.1));
           };
           rest_events = rw ue;
           rest_lengths = rw un;
@@ -200,9 +201,9 @@ file_decoded bs r o f =
     let w = f.whole in
     let z : span (header_fields r ++ (ev ++ lu)) ≡ 23 + span ev + span lu = omega arith in
     let ha = header_back bs r o k.0 (omega arith) in
-    let hb = many_back bs (event_at bs r.stations) event_fields (EventOk r.stations) (event_back bs r.stations o.fields.some) es 23 o.fields.events m.0 (omega arith) in
+    let hb = many_back bs (event_at bs r.stations) event_fields (EventOk r.stations) (event_back bs r.stations o.fields.some) es 23 (recursion_from_All _ _ o.fields.events) m.0 (omega arith) in
     let hc = many_back bs (lineup_at bs) lineup_fields LineupOk (lineup_back bs) ls (23 + span ev)
-    (all_parts (used_lengths r) r.entries (full_entries r o) o.fields.lengths o.fields.entries) m.1 (omega arith) in
+    (all_parts (used_lengths r) r.entries (full_entries r o) (recursion_from_All _ _ o.fields.lengths) (recursion_from_All _ _ o.fields.entries)) m.1 (omega arith) in
     let hd = filling_back bs (23 + span ev + span lu) (gap (23 + span ev + span lu)) (zero_bits bs _ _ (rw z at f.filling)) (rw z at w) in
     let hb' = rw (full_events r o) at hb in
     let hc' = rw (full_lineups r o) at hc in

@@ -1,13 +1,13 @@
 -- What was read stands in the bytes, and what stands there is read.
 use Rattle.std.proofs.Common.{◌≡◌, ℕ, zero, suc, ◌+◌, ◌-◌, ◌*◌, ◌<◌, ◌≤◌, Bool, true, false, cond, List, [], ◌∷◌, ◌++◌, length, Ok, sym, refl, ap, subst, add-zero, add_assoc, arith, lit≤}
-use Rattle.std.specs.List.{flat_map}
+use Rattle.std.specs.List.{AllByRecursion, flat_map}
 use Rattle.std.proofs.lemmas.Bool.{both_ways}
 use Rattle.recording.specs.declared.record.Event.{Event}
 use Rattle.recording.specs.declared.record.EventKind.{EventKind}
 use Rattle.recording.specs.declared.record.EventKind.TheVariants.{PostCalled, DrawCalled, PostAnswered, DrawAnswered, DrawEmpty}
 use Rattle.recording.specs.Layout.{Field, bits, span, Laid, event_fields, entry_fields, lineup_fields}
 use Rattle.recording.specs.Ranges.{and_then}
-use Rattle.recording.specs.Record.{All, EventOk, carries, number_of, event, max_call, max_entries, max_order}
+use Rattle.recording.specs.Record.{EventOk, carries, number_of, event, max_call, max_entries, max_order}
 use Rattle.recording.proofs.Layouts.{kind_most, laid_append, laid_parts, span_append}
 use Rattle.recording.proofs.Lineups.{LineupOk}
 use Rattle.recording.proofs.Ranges.{ok_parts, same_ok}
@@ -47,24 +47,24 @@ field_stands bs p w lo hi v q h =
 module _ {A : Type 0} (bs : List ℕ) (item : ℕ → Reading A) (fields : A → List Field) (Good : A → Type 0) where
   module _ (one : (p : ℕ) (x : A) (q : ℕ) → item p ≡ Ok (x, q) → Stands bs p q (fields x) × Good x) where
     pub many_stands : (n p : ℕ) (xs : List A) (q : ℕ) → p ≤ 8 * length bs → many_at item n p ≡ Ok (xs, q)
-        → Stands bs p q (flat_map fields xs) × All Good xs × (length xs ≡ n)
-    unfolding many_at All
+        → Stands bs p q (flat_map fields xs) × AllByRecursion Good xs × (length xs ≡ n)
+    unfolding many_at
     many_stands zero p xs q r h =
-        subst (λ (y : List A × ℕ). Stands bs p y.1 (flat_map fields y.0) × All Good y.0 × (length y.0 ≡ 0))
+        subst (λ (y : List A × ℕ). Stands bs p y.1 (flat_map fields y.0) × AllByRecursion Good y.0 × (length y.0 ≡ 0))
         (same_ok _ _ h) (stands_none bs p r, tt, refl)
     many_stands (suc n) p xs q r h =
         let a = ok_parts _ _ _ h in
         let b = ok_parts _ _ _ a.2 in
         let x = one p a.0.0 a.0.1 a.1 in
         let m = many_stands n a.0.1 b.0.0 b.0.1 x.0.room b.1 in
-        subst (λ (y : List A × ℕ). Stands bs p y.1 (flat_map fields y.0) × All Good y.0 × (length y.0 ≡ suc n))
+        subst (λ (y : List A × ℕ). Stands bs p y.1 (flat_map fields y.0) × AllByRecursion Good y.0 × (length y.0 ≡ suc n))
         (same_ok _ _ b.2)
         (stands_append bs p a.0.1 b.0.1 _ _ x.0 m.0, (x.1, m.1), ap suc m.2)
 
   module _ (one : (p : ℕ) (x : A) → Good x → Laid bs p (fields x) → p + span (fields x) ≤ 8 * length bs → item p ≡ Ok (x, p + span (fields x))) where
-    pub many_back : (xs : List A) (p : ℕ) → All Good xs → Laid bs p (flat_map fields xs) → p + span (flat_map fields xs) ≤ 8 * length bs
+    pub many_back : (xs : List A) (p : ℕ) → AllByRecursion Good xs → Laid bs p (flat_map fields xs) → p + span (flat_map fields xs) ≤ 8 * length bs
         → many_at item (length xs) p ≡ Ok (xs, p + span (flat_map fields xs))
-    unfolding many_at All span
+    unfolding many_at span
     many_back [] p g l r = rw add-zero
     many_back (x ∷ xs) p g l r =
         let s = span_append (fields x) (flat_map fields xs) in
@@ -75,7 +75,7 @@ module _ {A : Type 0} (bs : List ℕ) (item : ℕ → Reading A) (fields : A →
 
 -- ---- an event
 
-kind_code : (k : EventKind) → kind_of (number_of k) ≡ k
+pub kind_code : (k : EventKind) → kind_of (number_of k) ≡ k
 unfolding kind_of
 kind_code PostCalled = refl
 kind_code DrawCalled = refl

@@ -11,20 +11,21 @@ ghost use Rattle.std.specs.Prelude.{◌≡◌, ℕ, ◌*◌, ◌^◌, ◌<◌, �
 ghost use Rattle.bits.specs.Widths.{bits_of};
 ghost use Rattle.reader.specs.Faults.{read_told};
 ghost use Rattle.recording.specs.Layout.{gap};
-ghost use Rattle.reader.specs.Reading.{Faulty, Gives, Holds, Moved, Placed, Reading, decode, entry_at, event_at, field_at, filling_at, header_at, item_bits, kind_of, lineup_at, lineup_bits, many_at};
-ghost use Rattle.recording.specs.Record.{all_entries, all_zero, max_entries, max_events, max_stations};
+ghost use Rattle.reader.specs.Reading.{Faulty, Gives, Holds, Moved, Placed, Reading, decode, entry_at, event_at, field_at, filling_at, header_at, item_bits, lineup_at, lineup_bits, many_at};
+ghost use Rattle.recording.specs.Record.{all_entries, all_zero, max_entries, max_events, max_kind, max_stations, number_of};
 
 use crate::fault::ReadFault;
 use bits::cursor::BitCursor;
 use bits::width::Width;
+use recording::fault::FieldFault;
 use recording::layout::{
     CODE_WIDTH, COUNT_WIDTH, EDITION, EDITION_WIDTH, ENTRY_WIDTH, FILLING_WIDTH, KIND_WIDTH,
     LENGTH_WIDTH, ORDER_WIDTH, STATION_WIDTH, STATIONS_WIDTH,
 };
 use recording::range::ranged;
 use recording::record::{
-    ALL_ENTRIES, Event, EventKind, MAX_CALL, MAX_CODE, MAX_ENTRIES, MAX_EVENTS, MAX_KIND,
-    MAX_ORDER, MAX_STATIONS, Recording,
+    ALL_ENTRIES, Event, EventKind, MAX_CALL, MAX_CODE, MAX_ENTRIES, MAX_EVENTS, MAX_ORDER,
+    MAX_STATIONS, Recording,
 };
 
 /// The fields before the events, but for the edition, which is 1.
@@ -68,17 +69,17 @@ fn read_header(cursor: &mut BitCursor) -> Result<Header, ReadFault>
     })
 }
 
-/// The kind that a number up to 4 stands for.
-fn kind_of(number: u16) -> EventKind
-    ensures { result ≡ kind_of number }
+/// The next field, the kind of an event.
+#[tactic(auto, unfolding(crate::specs::Reading::field_at, recording::specs::Ranges::ranged))]
+fn read_kind(cursor: &mut BitCursor) -> Result<EventKind, ReadFault>
+    requires { cursor.old.place < 2 ^ 60 }
+    ensures moved { Moved cursor.old cursor.new 3 }
+    ensures reading { Gives (λ kind. (number_of kind, cursor.new.place)) result
+        (field_at cursor.old.bytes.now cursor.old.place 3 0 max_kind) }
 {
-    match number {
-        0 => EventKind::PostCalled,
-        1 => EventKind::DrawCalled,
-        2 => EventKind::PostAnswered,
-        3 => EventKind::DrawAnswered,
-        _ => EventKind::DrawEmpty,
-    }
+    let bit = cursor.place();
+    let number = cursor.take(KIND_WIDTH)?;
+    Ok(EventKind::try_from(number).map_err(|_| FieldFault::Range { bit })?)
 }
 
 /// Items of one kind, which a file holds one after the other.
@@ -122,11 +123,10 @@ impl Items for Events {
 
     ghost at = { λ s bytes. event_at bytes s.stations };
 
-    #[tactic(auto, unfolding(crate::specs::Reading::event_at))]
+    #[tactic(auto, using(crate::proofs::Stands::kind_code), unfolding(crate::specs::Reading::event_at))]
     fn read_one(&self, cursor: &mut BitCursor) -> Result<Event, ReadFault> {
-        let number = field(cursor, KIND_WIDTH, 0, MAX_KIND)?;
+        let kind = read_kind(cursor)?;
         let station = field(cursor, STATION_WIDTH, 0, self.stations.saturating_sub(1))?;
-        let kind = kind_of(number);
         let order = if kind.carries_order() {
             field(cursor, ORDER_WIDTH, 0, MAX_ORDER)?
         } else {
