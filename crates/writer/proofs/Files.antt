@@ -7,13 +7,13 @@ use Rattle.bits.specs.Bits.{spelled}
 use Rattle.bits.proofs.Spells.{spelled_split}
 use Rattle.recording.specs.declared.record.Event.{Event}
 use Rattle.recording.specs.declared.record.Recording.{Recording}
-use Rattle.recording.specs.Layout.{IsFile, Laid, bits, entry_fields, event_fields, gap, header_fields, lineup_fields, record_fields, span}
+use Rattle.recording.specs.Layout.{Field, IsFile, Laid, bits, entry_fields, event_fields, gap, header_fields, lineup_fields, record_fields, span}
 use Rattle.recording.specs.Record.{All, EventOk, Limits, carries, lineups_of, max_call, max_order, max_stations, used_events, used_lengths}
 use Rattle.recording.proofs.Layouts.{kind_most, laid_same, span_append}
 use Rattle.recording.proofs.Lineups.{LineupOk, all_append, all_parts, full_entries}
 use Rattle.writer.specs.Laying.{Fits, LaidOver, Ready, filling_fields}
-use Rattle.writer.proofs.Lays.{ready_next, wrote_append}
-use Rattle.writer.specs.Writing.{file_size}
+use Rattle.writer.specs.declared.bit_writer.BitWriter.{BitWriter}
+use Rattle.writer.specs.Writing.{file_size, max_size}
 
 -- ---- every value fits its field
 
@@ -79,18 +79,6 @@ file_size_lem bs r f =
     let b = size_bits (span (record_fields r)) in
     omega arith
 
-pub ready_file : (r : Recording) (n : ℕ) → Limits r → n ≡ file_size r → n < 2 ^ 50 → Ready n 0 (record_fields r ++ filling_fields (span (record_fields r)))
-ready_file r n o e h =
-    let p = span (record_fields r) in
-    let s = span_append (record_fields r) (filling_fields p) in
-    let g = zeros_span (gap p) in
-    let b = size_bits p in
-    record {
-      fits = all_append Fits (record_fields r) (filling_fields p) (record_fits r o) (zeros_fit (gap p));
-      room = omega arith;
-      countable = omega arith;
-    }
-
 -- ---- it is the file
 
 no_bits : (bs : List ℕ) (p : ℕ) → spelled bs p 0 ≡ 0
@@ -104,29 +92,36 @@ laid_zeros bs (suc n) p h =
     let e : suc n ≡ 1 + n = omega arith in
     rw (e, spelled_split bs p 1 n, h.0, laid_zeros bs n (p + 1) h.1) (omega arith)
 
-pub record_wrote : (a b c d : List ℕ) (p q s : ℕ) (r : Recording) → LaidOver a b 0 p (header_fields r) → LaidOver b c p q (flat_map event_fields (used_events r))
-    → LaidOver c d q s (flat_map lineup_fields (lineups_of r)) → LaidOver a d 0 s (record_fields r)
-unfolding record_fields
-record_wrote a b c d p q s r f g h = wrote_append a b d 0 p s _ _ f (wrote_append b c d p q s _ _ g h)
+-- there is room for the fields of a recording, and then for the filling
+module _ {w : BitWriter} {r : Recording} (o : Limits r) (z : w.place ≡ 0) (n : length w.bytes.now ≡ file_size r) (m : file_size r ≤ max_size) where
+  pub ready_record : Ready w (record_fields r)
+  ready_record =
+      let b = size_bits (span (record_fields r)) in
+      record { fits = record_fits r o; room = omega arith }
 
-pub ready_filling : (a b : List ℕ) (p : ℕ) (r : Recording) → Ready (length a) 0 (record_fields r ++ filling_fields (span (record_fields r)))
-    → LaidOver a b 0 p (record_fields r) → Ready (length b) p (filling_fields p)
-ready_filling a b p r h f =
-    let s = f.end in
-    let t : span (record_fields r) ≡ p = omega arith in
-    rw t at (ready_next a b 0 p (record_fields r) (filling_fields (span (record_fields r))) h f)
+  pub ready_filling : {v : BitWriter} → LaidOver w v (record_fields r) → Ready v (filling_fields v.place)
+  ready_filling {v} l =
+      let b = size_bits (span (record_fields r)) in
+      let e = l.end in
+      let k = l.long in
+      let p : v.place ≡ span (record_fields r) = omega arith in
+      let g = zeros_span (gap v.place) in
+      record { fits = zeros_fit (gap v.place); room = rw (g, p) (omega arith) }
 
-pub file_laid : (a b c : List ℕ) (p q : ℕ) (r : Recording) → LaidOver a b 0 p (record_fields r) → LaidOver b c p q (filling_fields p) → length a ≡ file_size r → IsFile c r
-file_laid a b c p q r f g e =
+-- so laid out they are the file
+pub file_laid : {a b c : BitWriter} {r : Recording} {bs : List ℕ} → a.place ≡ 0 → length a.bytes.now ≡ file_size r → LaidOver a b (record_fields r) → LaidOver b c (filling_fields b.place)
+    → bs ≡ c.bytes.now → IsFile bs r
+file_laid {a} {b} {c} {r} {bs} z n f g e =
+    let p = span (record_fields r) in
     let s = f.end in
-    let t : p ≡ span (record_fields r) = omega arith in
-    let l = g.long ∙ f.long ∙ e in
-    let z = size_bits (span (record_fields r)) in
-    record {
-      fields = laid_same b c 0 (record_fields r) (λ k _ i. g.others k (inl (omega arith))) f.laid;
-      filling = rw t at (laid_zeros c (gap p) p g.laid);
+    let t : b.place ≡ p = omega arith in
+    let l = g.long ∙ f.long ∙ n in
+    let k = size_bits p in
+    rw e (record {
+      fields = laid_same b.bytes.now c.bytes.now 0 (record_fields r) (λ k _ i. g.others k (inl (omega arith))) (rw z at f.laid);
+      filling = rw t at (laid_zeros c.bytes.now (gap b.place) b.place g.laid);
       whole = omega arith;
-    }
+    })
 
 -- ---- at the front of a buffer
 
