@@ -1,7 +1,7 @@
 -- The fields of a recording within the limits fit, and laid out with their filling they are its file.
-use Rattle.std.proofs.Common.{◌≡◌, ℕ, zero, suc, ◌+◌, ◌*◌, ◌/◌, ◌^◌, ◌<◌, ◌≤◌, Bool, true, false, cond, List, [], ◌∷◌, ◌++◌, length, get_or, take, replicate, refl, ◌∙◌, inl, inr, arith, length-take}
+use Rattle.std.proofs.Common.{◌≡◌, ℕ, zero, suc, ◌+◌, ◌*◌, ◌/◌, ◌^◌, ◌<◌, ◌≤◌, Bool, true, false, cond, List, [], ◌∷◌, ◌++◌, length, get_or, take, replicate, refl, ◌∙◌, inl, inr, arith, rules, length-take, drop, sym}
 use Rattle.std.specs.List.{flat_map}
-use Rattle.std.proofs.lemmas.List.{get_or_past, get_or-take}
+use Rattle.std.proofs.lemmas.List.{drop_at, get_or_past, get_or-take, take_at}
 use Rattle.std.proofs.lemmas.Bool.{cases_lt}
 use Rattle.bits.specs.Bits.{spelled}
 use Rattle.bits.proofs.Spells.{spelled_split}
@@ -9,42 +9,26 @@ use Rattle.recording.specs.declared.record.Event.{Event}
 use Rattle.recording.specs.declared.record.Recording.{Recording}
 use Rattle.recording.specs.Layout.{Field, IsFile, Laid, bits, entry_fields, event_fields, gap, header_fields, lineup_fields, record_fields, span}
 use Rattle.recording.specs.Record.{All, EventOk, Limits, carries, lineups_of, max_call, max_order, max_stations, used_events, used_lengths}
-use Rattle.recording.proofs.Layouts.{kind_most, laid_same, span_append}
+use Rattle.recording.proofs.Layouts.{kind_most, laid_same, same_file, span_append}
 use Rattle.recording.proofs.Lineups.{LineupOk, all_append, all_parts, full_entries}
 use Rattle.writer.specs.Laying.{Fits, LaidOver, Ready, filling_fields}
 use Rattle.writer.specs.declared.bit_writer.BitWriter.{BitWriter}
-use Rattle.writer.specs.Writing.{file_size, max_size}
+use Rattle.writer.specs.Writing.{Written, file_size, max_size}
 
 -- ---- every value fits its field
 
-order_fits : (e : Event) (b : Bool) → e.order ≤ max_order → All Fits (cond b (bits 12 e.order ∷ []) [])
+all_flat_map : {A B : Type 0} (P : A → Type 0) (Q : B → Type 0) (f : A → List B) → ((x : A) → P x → All Q (f x)) → (xs : List A) → All P xs → All Q (flat_map f xs)
 unfolding All
-order_fits e true o = (omega arith, tt)
-order_fits e false o = tt
+all_flat_map P Q f each [] h = tt
+all_flat_map P Q f each (x ∷ xs) h = all_append Q (f x) (flat_map f xs) (each x h.0) (all_flat_map P Q f each xs h.1)
 
-event_fits : (st : ℕ) (e : Event) → st ≤ max_stations → EventOk st e → All Fits (event_fields e)
+event_fits : (st : ℕ) → st ≤ max_stations → (e : Event) → EventOk st e → All Fits (event_fields e)
 unfolding event_fields All
-event_fits st e h o =
-    let k = kind_most e.kind in
-    let s = o.station in
-    (omega arith, (omega arith, order_fits e (carries e.kind) o.order))
+event_fits st h e o = let k = kind_most e.kind in grind (arith, k, o.station, o.order)
 
-events_fit : (st : ℕ) (es : List Event) → st ≤ max_stations → All (EventOk st) es → All Fits (flat_map event_fields es)
-unfolding All
-events_fit st [] h o = tt
-events_fit st (e ∷ es) h o = all_append Fits (event_fields e) (flat_map event_fields es) (event_fits st e h o.0) (events_fit st es h o.1)
-
-entries_fit : (es : List ℕ) → All (λ c. c ≤ max_call) es → All Fits (flat_map entry_fields es)
-unfolding All
-entries_fit [] o = tt
-entries_fit (e ∷ es) o = let l = o.0 in (omega arith, entries_fit es o.1)
-
-lineups_fit : (ls : List (List ℕ)) → All LineupOk ls → All Fits (flat_map lineup_fields ls)
+lineup_fits : (l : List ℕ) → LineupOk l → All Fits (lineup_fields l)
 unfolding lineup_fields All
-lineups_fit [] o = tt
-lineups_fit (l ∷ ls) o =
-    let n = o.0.0 in
-    all_append Fits (lineup_fields l) (flat_map lineup_fields ls) (omega arith, entries_fit l o.0.1) (lineups_fit ls o.1)
+lineup_fits l o = (omega (arith, o.0), all_flat_map (λ c. c ≤ max_call) Fits entry_fields (λ c h. (omega arith, tt)) l o.1)
 
 zeros_fit : (n : ℕ) → All Fits (replicate n (bits 1 0))
 unfolding All
@@ -54,13 +38,11 @@ zeros_fit (suc n) = (omega arith, zeros_fit n)
 record_fits : (r : Recording) → Limits r → All Fits (record_fields r)
 unfolding record_fields All
 record_fits r o =
-    let a = o.fields.code in
-    let b = o.fields.stations in
-    let c = o.fields.count in
-    all_append Fits (header_fields r) _ (omega arith, (omega arith, (omega arith, (omega arith, tt))))
+    let f = o.fields in
+    all_append Fits (header_fields r) _ (search (rules, f.code, f.stations, f.count))
     (all_append Fits (flat_map event_fields (used_events r)) (flat_map lineup_fields (lineups_of r))
-    (events_fit r.stations (used_events r) o.fields.stations o.fields.events)
-    (lineups_fit (lineups_of r) (all_parts (used_lengths r) r.entries (full_entries r o) o.fields.lengths o.fields.entries)))
+    (all_flat_map (EventOk r.stations) Fits event_fields (event_fits r.stations f.stations) (used_events r) f.events)
+    (all_flat_map LineupOk Fits lineup_fields lineup_fits (lineups_of r) (all_parts (used_lengths r) r.entries (full_entries r o) f.lengths f.entries)))
 
 -- ---- there is room
 
@@ -125,9 +107,18 @@ file_laid {a} {b} {c} {r} {bs} z n f g e =
 
 -- ---- at the front of a buffer
 
-pub front_small : (n : ℕ) (bs : List ℕ) → ((i : ℕ) → get_or bs i 0 < 256) → (i : ℕ) → get_or (take n bs) i 0 < 256
-front_small n bs h i =
-    elim (cases_lt i n) [
-      | inl l ↦ (rw (get_or-take n bs i 0 l) (h i))
-      | inr l ↦ (let m = length-take n bs in rw (get_or_past (take n bs) i 0 (omega arith)) (omega arith))
-    ]
+front_small : (n : ℕ) (bs : List ℕ) → ((i : ℕ) → get_or bs i 0 < 256) → (i : ℕ) → get_or (take n bs) i 0 < 256
+front_small n bs h i = grind (arith, get_or-take, get_or_past, length-take, cases_lt i n, h i)
+
+pub front_written : (r : Recording) (n : ℕ) (old bs : List ℕ) → Limits r → n ≡ file_size r → n ≤ length old → IsFile bs r → ((i : ℕ) → get_or (bs ++ drop n old) i 0 < 256) → Written r old (bs ++ drop n old) n
+front_written r n old bs o s m f h =
+    let k : length bs ≡ n = file_size_lem bs r f ∙ sym s in
+    let g : IsFile (take n (bs ++ drop n old)) r = rw (take_at bs (drop n old) n k) f in
+    record {
+      limits = o;
+      size = s;
+      room = m;
+      file = g;
+      only = λ cs c i. same_file cs _ r c (front_small n (bs ++ drop n old) h) i g;
+      rest = drop_at bs (drop n old) n k;
+    }

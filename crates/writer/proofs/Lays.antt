@@ -48,7 +48,6 @@ ready_next {a} {b} {fs} gs h w =
     let l = w.long in
     record { fits = (all_split Fits fs gs h.fits).1; room = omega arith }
 
-
 -- ---- fields that are left to write
 
 -- of the fields fs, with which the writer a began, the fields gs are left at the writer b

@@ -16,7 +16,8 @@ use recording::layout::{
 use recording::record::{Event, Recording};
 
 /// An item that is laid out as fields.
-pub(crate) trait Lay {
+trait Lay {
+    /// The fields.
     ghost fields: { Self → List Field };
 
     /// Lays out the item's fields, for which there is room.
