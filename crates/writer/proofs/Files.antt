@@ -1,5 +1,5 @@
 -- The fields of a recording within the limits fit, and laid out with their filling they are its file.
-use Rattle.std.proofs.Common.{◌≡◌, ℕ, zero, suc, ◌+◌, ◌*◌, ◌/◌, ◌^◌, ◌<◌, ◌≤◌, Bool, true, false, cond, List, [], ◌∷◌, ◌++◌, length, get_or, take, replicate, refl, ◌∙◌, inl, inr, arith, rules, length-take, drop, sym}
+use Rattle.std.proofs.Common.{◌≡◌, ℕ, zero, suc, ◌+◌, ◌*◌, ◌/◌, ◌^◌, ◌<◌, ◌≤◌, Bool, true, false, cond, List, [], ◌∷◌, ◌++◌, length, get_or, take, replicate, refl, ap, ◌∙◌, inl, inr, arith, rules, length-take, drop, sym}
 use Rattle.std.specs.List.{flat_map}
 use Rattle.std.proofs.lemmas.List.{drop_at, get_or_past, get_or-take, take_at}
 use Rattle.std.proofs.lemmas.Bool.{cases_lt}
@@ -74,36 +74,34 @@ laid_zeros bs (suc n) p h =
     let e : suc n ≡ 1 + n = omega arith in
     rw (e, spelled_split bs p 1 n, h.0, laid_zeros bs n (p + 1) h.1) (omega arith)
 
--- there is room for the fields of a recording, and then for the filling
-module _ {w : BitWriter} {r : Recording} (o : Limits r) (z : w.place ≡ 0) (n : length w.bytes.now ≡ file_size r) (m : file_size r ≤ max_size) where
-  pub ready_record : Ready w (record_fields r)
-  ready_record =
+-- a writer at the first bit of so many bytes has room for the fields of a recording, and then for the filling; they are the file
+module _ (r : Recording) {a : BitWriter} {old : List ℕ} (z : a.place ≡ 0) (s : a.bytes.now ≡ old) (n : length old ≡ file_size r) where
+  pub ready_record : Limits r → file_size r ≤ max_size → Ready a (record_fields r)
+  ready_record o m =
       let b = size_bits (span (record_fields r)) in
+      let l = ap length s ∙ n in
       record { fits = record_fits r o; room = omega arith }
 
-  pub ready_filling : {v : BitWriter} → LaidOver w v (record_fields r) → Ready v (filling_fields v.place)
-  ready_filling {v} l =
-      let b = size_bits (span (record_fields r)) in
-      let e = l.end in
-      let k = l.long in
-      let p : v.place ≡ span (record_fields r) = omega arith in
-      let g = zeros_span (gap v.place) in
-      record { fits = zeros_fit (gap v.place); room = rw (g, p) (omega arith) }
+  pub ready_filling : {b : BitWriter} → file_size r ≤ max_size → LaidOver a b (record_fields r) → Ready b (filling_fields b.place)
+  ready_filling {b} m f =
+      let k = size_bits (span (record_fields r)) in
+      let l = f.long ∙ ap length s ∙ n in
+      let e = f.end in
+      let p : b.place ≡ span (record_fields r) = omega arith in
+      let g = zeros_span (gap b.place) in
+      record { fits = zeros_fit (gap b.place); room = rw (g, p) (omega arith) }
 
--- so laid out they are the file
-pub file_laid : {a b c : BitWriter} {r : Recording} {bs : List ℕ} → a.place ≡ 0 → length a.bytes.now ≡ file_size r → LaidOver a b (record_fields r) → LaidOver b c (filling_fields b.place)
-    → bs ≡ c.bytes.now → IsFile bs r
-file_laid {a} {b} {c} {r} {bs} z n f g e =
-    let p = span (record_fields r) in
-    let s = f.end in
-    let t : b.place ≡ p = omega arith in
-    let l = g.long ∙ f.long ∙ n in
-    let k = size_bits p in
-    rw e (record {
-      fields = laid_same b.bytes.now c.bytes.now 0 (record_fields r) (λ k _ i. g.others k (inl (omega arith))) (rw z at f.laid);
-      filling = rw t at (laid_zeros c.bytes.now (gap b.place) b.place g.laid);
-      whole = omega arith;
-    })
+  pub file_laid : {b c : BitWriter} {bs : List ℕ} → LaidOver a b (record_fields r) → LaidOver b c (filling_fields b.place) → bs ≡ c.bytes.now → IsFile bs r
+  file_laid {b} {c} f g e =
+      let k = size_bits (span (record_fields r)) in
+      let l = g.long ∙ f.long ∙ ap length s ∙ n in
+      let p = f.end in
+      let t : b.place ≡ span (record_fields r) = omega arith in
+      rw e (record {
+        fields = laid_same b.bytes.now c.bytes.now 0 (record_fields r) (λ k _ i. g.others k (inl (omega arith))) (rw z at f.laid);
+        filling = rw t at (laid_zeros c.bytes.now (gap b.place) b.place g.laid);
+        whole = omega arith;
+      })
 
 -- ---- at the front of a buffer
 

@@ -76,3 +76,10 @@ unfolding gap
 filling_more p q h e =
     let g : gap p ≡ suc (gap q) = omega arith in
     rw g
+
+pub left_bit : {a b c : BitWriter} {fs : List Field} → Left a b fs (filling_fields b.place) → (b.place % 8 ≡ 0 → ⊥) → LaidOver b c (bits 1 0 ∷ []) → Left a c fs (filling_fields c.place)
+unfolding span gap
+left_bit {a} {b} {c} l h w =
+    let e = w.end in
+    let g : gap b.place ≡ suc (gap c.place) = omega arith in
+    left_more (rw g at l) w

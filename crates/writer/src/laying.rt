@@ -1,5 +1,5 @@
 //! What a file holds, laid out as fields that stand one after the other.
-#![tactic(auto, using(crate::proofs::Lays::wrote_more), unfolding(recording::specs::Layout::span, recording::specs::Layout::event_fields, recording::specs::Layout::lineup_fields, recording::specs::Record::All))]
+#![tactic(auto, using(crate::proofs::Lays::wrote_more), unfolding(recording::specs::Layout::event_fields, recording::specs::Layout::lineup_fields, recording::specs::Layout::span, recording::specs::Record::All))]
 
 ghost use Rattle.std.specs.Prelude.{◌≡◌, ◌≤◌, List, length};
 ghost use Rattle.std.specs.List.{flat_map};

@@ -6,19 +6,16 @@ use Rattle.writer.proofs.laying.lay_recording.Goals as goal
 
 pub lay_header-requires : goal.lay_header-requires
 unfolding record_fields
-lay_header-requires c = ready_front _ c.requires.ready
+lay_header-requires c = search (rules, ready_front)
 
 pub lay_all-requires : goal.lay_all-requires
 unfolding record_fields
-lay_all-requires c = ready_front _ (ready_next _ c.requires.ready c.lay_header.ensures)
+lay_all-requires c = search (rules, ready_front, ready_next)
 
 pub lay_lineups-requires : goal.lay_lineups-requires
 unfolding record_fields
-lay_lineups-requires c = record {
-  ready = ready_next _ (ready_next _ c.requires.ready c.lay_header.ensures) c.lay_all.ensures;
-  there = full_entries c.args.recording.now c.requires.limits;
-}
+lay_lineups-requires c = search (rules, ready_next, full_entries)
 
 pub returns : goal.returns
 unfolding record_fields
-returns c = wrote_append c.lay_header.ensures (wrote_append c.lay_all.ensures c.lay_lineups.ensures)
+returns c = search (rules, wrote_append)
