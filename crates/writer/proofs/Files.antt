@@ -1,5 +1,5 @@
 -- The fields of a recording within the limits fit, and laid out with their filling they are its file.
-use Rattle.std.proofs.Common.{◌≡◌, ℕ, zero, suc, ◌+◌, ◌*◌, ◌/◌, ◌^◌, ◌<◌, ◌≤◌, Bool, true, false, cond, List, [], ◌∷◌, ◌++◌, length, get_or, take, replicate, refl, ap, ◌∙◌, inl, inr, arith, rules, length-take, drop, sym}
+use Rattle.std.proofs.Common.{◌≡◌, ℕ, zero, suc, ◌+◌, ◌*◌, ◌/◌, ◌<◌, ◌≤◌, List, [], ◌∷◌, ◌++◌, length, get_or, take, replicate, refl, ap, ◌∙◌, inl, arith, rules, length-take, drop, sym}
 use Rattle.std.specs.List.{flat_map}
 use Rattle.std.proofs.lemmas.List.{drop_at, get_or_past, get_or-take, take_at}
 use Rattle.std.proofs.lemmas.Bool.{cases_lt}
@@ -7,9 +7,9 @@ use Rattle.bits.specs.Bits.{spelled}
 use Rattle.bits.proofs.Spells.{spelled_split}
 use Rattle.recording.specs.declared.record.Event.{Event}
 use Rattle.recording.specs.declared.record.Recording.{Recording}
-use Rattle.recording.specs.Layout.{Field, IsFile, Laid, bits, entry_fields, event_fields, gap, header_fields, lineup_fields, record_fields, span}
-use Rattle.recording.specs.Record.{All, EventOk, Limits, carries, lineups_of, max_call, max_order, max_stations, used_events, used_lengths}
-use Rattle.recording.proofs.Layouts.{kind_most, laid_same, same_file, span_append}
+use Rattle.recording.specs.Layout.{IsFile, Laid, bits, entry_fields, event_fields, gap, header_fields, lineup_fields, record_fields, span}
+use Rattle.recording.specs.Record.{All, EventOk, Limits, lineups_of, max_call, max_stations, used_events, used_lengths}
+use Rattle.recording.proofs.Layouts.{kind_most, laid_same, same_file}
 use Rattle.recording.proofs.Lineups.{LineupOk, all_append, all_parts, full_entries}
 use Rattle.writer.specs.Laying.{Fits, LaidOver, Ready, filling_fields}
 use Rattle.writer.specs.declared.bit_writer.BitWriter.{BitWriter}

@@ -1,10 +1,9 @@
 -- Fields written one after the other.
-use Rattle.std.proofs.Common.{◌≡◌, ℕ, suc, ◌+◌, ◌-◌, ◌%◌, ◌^◌, ◌<◌, ◌≤◌, List, [], ◌∷◌, ◌++◌, length, get_or, drop, refl, ◌∙◌, inl, inr, add-zero, sym, mod-eq_of_lt, arith}
+use Rattle.std.proofs.Common.{◌≡◌, ℕ, suc, ◌+◌, ◌%◌, ◌<◌, ◌≤◌, List, [], ◌∷◌, ◌++◌, length, get_or, take, drop, refl, ◌∙◌, inl, inr, add-zero, sym, arith}
 use Rattle.std.specs.List.{flat_map}
-use Rattle.std.proofs.lemmas.List.{drop_more, drop_all}
-use Rattle.bits.specs.Bits.{Overwritten}
-use Rattle.recording.specs.Layout.{Field, Laid, bits, gap, span}
-use Rattle.recording.specs.Record.{All}
+use Rattle.std.proofs.lemmas.List.{drop_more, drop_all, length-drop}
+use Rattle.recording.specs.Layout.{Field, Laid, bits, gap, lineup_fields, span}
+use Rattle.recording.specs.Record.{parts, total}
 use Rattle.recording.proofs.Layouts.{laid_append, laid_same, span_append}
 use Rattle.recording.proofs.Lineups.{all_split}
 use Rattle.writer.specs.declared.bit_writer.BitWriter.{BitWriter}
@@ -65,21 +64,59 @@ left_none {a} {b} {fs} l = l.whole b (wrote_none b)
 pub left_more : {a b c : BitWriter} {fs gs hs : List Field} → Left a b fs (gs ++ hs) → LaidOver b c gs → Left a c fs hs
 left_more {a} {b} {c} {fs} {gs} {hs} l w = record { ready = ready_next hs l.ready w; whole = λ d v. l.whole d (wrote_append w v) }
 
--- the fields of the item at i, and then those of the items after it
-pub left_item : {A : Type 0} (fields : A → List Field) (xs : List A) (i : ℕ) (x : A) → i < length xs → x ≡ get_or xs i x → {a b : BitWriter} {fs : List Field}
-    → Left a b fs (flat_map fields (drop i xs)) → Left a b fs (fields x ++ flat_map fields (drop (i + 1) xs))
-left_item fields xs i x h e l = rw (drop_more xs i x h, ← e) at l
+-- ---- items, one after the other
 
--- a filling bit, and then the filling after it
-pub filling_more : (p q : ℕ) → (p % 8 ≡ 0 → ⊥) → q ≡ p + 1 → filling_fields p ≡ bits 1 0 ∷ filling_fields q
-unfolding gap
-filling_more p q h e =
-    let g : gap p ≡ suc (gap q) = omega arith in
-    rw g
+module _ {A : Type 0} (fields : A → List Field) (xs : List A) (i : ℕ) {a b : BitWriter} {fs : List Field} (l : Left a b fs (flat_map fields (drop i xs))) where
+  -- the fields of the item at i, and then those of the items after it
+  left_item : (x : A) → i < length xs → x ≡ get_or xs i x → Left a b fs (fields x ++ flat_map fields (drop (i + 1) xs))
+  left_item x h e = rw (drop_more xs i x h, ← e) at l
 
-pub left_bit : {a b c : BitWriter} {fs : List Field} → Left a b fs (filling_fields b.place) → (b.place % 8 ≡ 0 → ⊥) → LaidOver b c (bits 1 0 ∷ []) → Left a c fs (filling_fields c.place)
+  pub item_ready : (x : A) → i < length xs → x ≡ get_or xs i x → Ready b (fields x)
+  item_ready x h e = ready_front _ (left_item x h e).ready
+
+  pub items_more : {c : BitWriter} (x : A) → i < length xs → x ≡ get_or xs i x → LaidOver b c (fields x) → Left a c fs (flat_map fields (drop (i + 1) xs))
+  items_more x h e w = left_more (left_item x h e) w
+
+  pub items_all : length xs ≤ i → LaidOver a b fs
+  items_all h = left_none (rw (drop_all i xs h) at l)
+
+-- ---- line-ups, one after the other
+
+-- of the fields fs, with which the writer a began, those of line-ups of the lengths ns are left at the writer b, and the entries es begin with theirs
+pub record LeftLineups (a b : BitWriter) (fs : List Field) (ns es : List ℕ) : Type 0 where
+  pub left : Left a b fs (flat_map lineup_fields (parts ns es))
+  pub there : total ns ≤ length es
+
+module _ {a b : BitWriter} {fs : List Field} (ns es : List ℕ) (i : ℕ) (l : LeftLineups a b fs (drop i ns) es) where
+  -- the line-up at i, and then those after it
+  left_lineup : i < length ns → LeftLineups a b fs (get_or ns i 0 ∷ drop (i + 1) ns) es
+  left_lineup h = rw (drop_more ns i 0 h) at l
+
+  pub lineup_there : i < length ns → get_or ns i 0 ≤ length es
+  unfolding total
+  lineup_there h = let t = (left_lineup h).there in omega arith
+
+  pub lineup_ready : {xs : List ℕ} → i < length ns → xs ≡ take (get_or ns i 0) es → Ready b (lineup_fields xs)
+  unfolding parts
+  lineup_ready h e = rw e (ready_front _ (left_lineup h).left.ready)
+
+  pub lineups_more : {c : BitWriter} {xs ys : List ℕ} → i < length ns → xs ≡ take (get_or ns i 0) es → ys ≡ drop (get_or ns i 0) es → LaidOver b c (lineup_fields xs)
+      → LeftLineups a c fs (drop (i + 1) ns) ys
+  unfolding parts total
+  lineups_more h e d w =
+      let k = left_lineup h in
+      let t = k.there in
+      rw d (record { left = left_more k.left (rw e at w); there = simp length-drop (omega arith) })
+
+  pub lineups_all : length ns ≤ i → LaidOver a b fs
+  unfolding parts
+  lineups_all h = left_none (rw (drop_all i ns h) at l.left)
+
+-- ---- the filling
+
+pub filling_more : {a b c : BitWriter} {fs : List Field} → Left a b fs (filling_fields b.place) → (b.place % 8 ≡ 0 → ⊥) → LaidOver b c (bits 1 0 ∷ []) → Left a c fs (filling_fields c.place)
 unfolding span gap
-left_bit {a} {b} {c} l h w =
+filling_more {a} {b} {c} l h w =
     let e = w.end in
     let g : gap b.place ≡ suc (gap c.place) = omega arith in
     left_more (rw g at l) w
