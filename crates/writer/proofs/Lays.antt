@@ -9,9 +9,10 @@ use Rattle.recording.proofs.Lineups.{all_split}
 use Rattle.writer.specs.declared.bit_writer.BitWriter.{BitWriter}
 use Rattle.writer.specs.Laying.{Fits, LaidOver, Ready, filling_fields}
 
+-- no field
 pub wrote_none : (w : BitWriter) → LaidOver w w []
 unfolding Laid span
-wrote_none w = record { same = refl; laid = tt; end = sym (add-zero w.place); others = λ k h. refl; long = refl }
+wrote_none w = record { same_reference = refl; laid = tt; end = sym (add-zero w.place); others = λ k h. refl; long = refl }
 
 -- fields, and then other fields
 pub wrote_append : {a b c : BitWriter} {fs gs : List Field} → LaidOver a b fs → LaidOver b c gs → LaidOver a c (fs ++ gs)
@@ -20,7 +21,7 @@ wrote_append {a} {b} {c} {fs} {gs} f g =
     let d = g.end in
     let s = span_append fs gs in
     record {
-      same = g.same ∙ f.same;
+      same_reference = g.same_reference ∙ f.same_reference;
       laid = laid_append c.bytes.now a.place fs gs (laid_same b.bytes.now c.bytes.now a.place fs (λ k _ l. g.others k (inl (omega arith))) f.laid) (rw e at g.laid);
       end = omega arith;
       others = λ k h. elim h [
@@ -30,8 +31,11 @@ wrote_append {a} {b} {c} {fs} {gs} f g =
       long = g.long ∙ f.long;
     }
 
+-- a field, and then other fields
 pub wrote_more : {a b c : BitWriter} {f : Field} {fs : List Field} → LaidOver a b (f ∷ []) → LaidOver b c fs → LaidOver a c (f ∷ fs)
 wrote_more f g = wrote_append f g
+
+-- ---- room for fields, and then for other fields
 
 pub ready_front : {w : BitWriter} {fs : List Field} (gs : List Field) → Ready w (fs ++ gs) → Ready w fs
 ready_front {w} {fs} gs h =
@@ -57,7 +61,6 @@ pub record Left (a b : BitWriter) (fs gs : List Field) : Type 0 where
 pub left_all : {a : BitWriter} {fs : List Field} → Ready a fs → Left a a fs fs
 left_all h = record { ready = h; whole = λ c w. w }
 
--- all at once
 pub left_none : {a b : BitWriter} {fs : List Field} → Left a b fs [] → LaidOver a b fs
 left_none {a} {b} {fs} l = l.whole b (wrote_none b)
 

@@ -14,9 +14,10 @@ pub record Ready (w : BitWriter) (fs : List Field) : Type 0 where
   pub fits : All Fits fs
   pub room : w.place + span fs ≤ reach w.bytes.now
 
--- the writer has written the fields fs where it stood, and stands after them; all other bits of its bytes stay
+-- the writer has written the fields fs where it stood, and stands after them; it still holds the same bytes, whose other
+-- bits stay
 pub record LaidOver (old new : BitWriter) (fs : List Field) : Type 0 where
-  pub same : new.bytes.ghost_name ≡ old.bytes.ghost_name
+  pub same_reference : new.bytes.ghost_name ≡ old.bytes.ghost_name
   pub laid : Laid new.bytes.now old.place fs
   pub end : new.place ≡ old.place + span fs
   pub others : (k : ℕ) → (k < old.place) ⊎ (new.place ≤ k) → bit_at new.bytes.now k ≡ bit_at old.bytes.now k

@@ -1,4 +1,4 @@
-//! A place in bytes that are written.
+//! Fields written into the caller's bytes, one after the other.
 #![tactic(auto, unfolding(recording::specs::Layout::Laid, recording::specs::Layout::gap, recording::specs::Layout::span, recording::specs::Record::All))]
 
 ghost use Rattle.std.specs.Prelude.{◌≡◌, [], ◌∷◌};
@@ -10,7 +10,7 @@ use bits::set::set;
 use bits::width::Width;
 use recording::layout::FILLING_WIDTH;
 
-/// A place in the caller's bytes, counted in bits, which the fields that are written move on.
+/// A place in the caller's bytes, counted in bits, at which the next field is written.
 #[derive(Drop)]
 pub(crate) struct BitWriter<'a> {
     bytes: &'a mut [u8],
@@ -20,14 +20,14 @@ pub(crate) struct BitWriter<'a> {
 impl<'a> BitWriter<'a> {
     /// A writer at the first bit.
     pub(crate) fn new(bytes: &'a mut [u8]) -> BitWriter<'a>
-        ensures same { result.bytes.ghost_name ≡ bytes.entry.ghost_name }
+        ensures same_reference { result.bytes.ghost_name ≡ bytes.entry.ghost_name }
         ensures bytes { result.bytes.now ≡ bytes.old }
         ensures place { result.place ≡ 0 }
     {
         BitWriter { bytes, place: 0 }
     }
 
-    /// Writes a field for which there is room.
+    /// Writes a field for which there is room, and moves past it.
     pub(crate) fn put(&mut self, width: Width, value: u16)
         requires { Ready self.old (bits (bits_of width) value ∷ []) }
         ensures { LaidOver self.old self.new (bits (bits_of width) value ∷ []) }

@@ -17,7 +17,7 @@ use recording::record::{Event, Recording};
 
 /// An item that is laid out as fields.
 trait Lay {
-    /// The fields.
+    /// The item's fields, in the sequence of the file.
     ghost fields: { Self → List Field };
 
     /// Lays out the item's fields, for which there is room.

@@ -31,9 +31,11 @@ pub fn write_then_read(
     Ok(size)
 }
 
-/// Writes a recording: the first bytes are then any file that the recording was read from.
+/// Writes a recording. Whatever file the recording was read from, the writing gives that file back.
 fn write_back(recording: &Recording, buffer: &mut [u8]) -> Result<usize, WriteFault>
-    ensures { (file : List ℕ) → ((i : ℕ) → slice_index file i < 256) → Holds file recording.now → Rewritten file buffer.old buffer.new result }
+    ensures { (file : List ℕ) → ((i : ℕ) → slice_index file i < 256)
+        → Holds file recording.now
+        → Rewritten file buffer.old buffer.new result }
 {
     write(recording, buffer)
 }
