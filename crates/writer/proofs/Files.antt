@@ -1,50 +1,34 @@
 -- The fields of a recording within the limits fit, and laid out with their filling they are its file.
-use Rattle.std.proofs.Common.{◌≡◌, ℕ, zero, suc, ◌+◌, ◌*◌, ◌/◌, ◌^◌, ◌<◌, ◌≤◌, Bool, true, false, cond, List, [], ◌∷◌, ◌++◌, length, get_or, take, replicate, refl, ◌∙◌, inl, inr, arith, length-take}
+use Rattle.std.proofs.Common.{◌≡◌, ℕ, zero, suc, ◌+◌, ◌*◌, ◌/◌, ◌<◌, ◌≤◌, List, [], ◌∷◌, ◌++◌, length, get_or, take, replicate, refl, ap, ◌∙◌, inl, arith, rules, length-take, drop, sym}
 use Rattle.std.specs.List.{flat_map}
-use Rattle.std.proofs.lemmas.List.{get_or_past, get_or-take}
+use Rattle.std.proofs.lemmas.List.{drop_at, get_or_past, get_or-take, take_at}
 use Rattle.std.proofs.lemmas.Bool.{cases_lt}
 use Rattle.bits.specs.Bits.{spelled}
 use Rattle.bits.proofs.Spells.{spelled_split}
 use Rattle.recording.specs.declared.record.Event.{Event}
 use Rattle.recording.specs.declared.record.Recording.{Recording}
 use Rattle.recording.specs.Layout.{IsFile, Laid, bits, entry_fields, event_fields, gap, header_fields, lineup_fields, record_fields, span}
-use Rattle.recording.specs.Record.{All, EventOk, Limits, carries, lineups_of, max_call, max_order, max_stations, used_events, used_lengths}
-use Rattle.recording.proofs.Layouts.{kind_most, laid_same, span_append}
+use Rattle.recording.specs.Record.{All, EventOk, Limits, lineups_of, max_call, max_stations, used_events, used_lengths}
+use Rattle.recording.proofs.Layouts.{kind_most, laid_same, same_file}
 use Rattle.recording.proofs.Lineups.{LineupOk, all_append, all_parts, full_entries}
 use Rattle.writer.specs.Laying.{Fits, LaidOver, Ready, filling_fields}
-use Rattle.writer.proofs.Lays.{ready_next, wrote_append}
-use Rattle.writer.specs.Writing.{file_size}
+use Rattle.writer.specs.declared.bit_writer.BitWriter.{BitWriter}
+use Rattle.writer.specs.Writing.{Written, file_size, max_size}
 
 -- ---- every value fits its field
 
-order_fits : (e : Event) (b : Bool) → e.order ≤ max_order → All Fits (cond b (bits 12 e.order ∷ []) [])
+all_flat_map : {A B : Type 0} (P : A → Type 0) (Q : B → Type 0) (f : A → List B) → ((x : A) → P x → All Q (f x)) → (xs : List A) → All P xs → All Q (flat_map f xs)
 unfolding All
-order_fits e true o = (omega arith, tt)
-order_fits e false o = tt
+all_flat_map P Q f each [] h = tt
+all_flat_map P Q f each (x ∷ xs) h = all_append Q (f x) (flat_map f xs) (each x h.0) (all_flat_map P Q f each xs h.1)
 
-event_fits : (st : ℕ) (e : Event) → st ≤ max_stations → EventOk st e → All Fits (event_fields e)
+event_fits : (st : ℕ) → st ≤ max_stations → (e : Event) → EventOk st e → All Fits (event_fields e)
 unfolding event_fields All
-event_fits st e h o =
-    let k = kind_most e.kind in
-    let s = o.station in
-    (omega arith, (omega arith, order_fits e (carries e.kind) o.order))
+event_fits st h e o = let k = kind_most e.kind in grind (arith, k, o.station, o.order)
 
-events_fit : (st : ℕ) (es : List Event) → st ≤ max_stations → All (EventOk st) es → All Fits (flat_map event_fields es)
-unfolding All
-events_fit st [] h o = tt
-events_fit st (e ∷ es) h o = all_append Fits (event_fields e) (flat_map event_fields es) (event_fits st e h o.0) (events_fit st es h o.1)
-
-entries_fit : (es : List ℕ) → All (λ c. c ≤ max_call) es → All Fits (flat_map entry_fields es)
-unfolding All
-entries_fit [] o = tt
-entries_fit (e ∷ es) o = let l = o.0 in (omega arith, entries_fit es o.1)
-
-lineups_fit : (ls : List (List ℕ)) → All LineupOk ls → All Fits (flat_map lineup_fields ls)
+lineup_fits : (l : List ℕ) → LineupOk l → All Fits (lineup_fields l)
 unfolding lineup_fields All
-lineups_fit [] o = tt
-lineups_fit (l ∷ ls) o =
-    let n = o.0.0 in
-    all_append Fits (lineup_fields l) (flat_map lineup_fields ls) (omega arith, entries_fit l o.0.1) (lineups_fit ls o.1)
+lineup_fits l o = (omega (arith, o.0), all_flat_map (λ c. c ≤ max_call) Fits entry_fields (λ c h. (omega arith, tt)) l o.1)
 
 zeros_fit : (n : ℕ) → All Fits (replicate n (bits 1 0))
 unfolding All
@@ -54,13 +38,11 @@ zeros_fit (suc n) = (omega arith, zeros_fit n)
 record_fits : (r : Recording) → Limits r → All Fits (record_fields r)
 unfolding record_fields All
 record_fits r o =
-    let a = o.fields.code in
-    let b = o.fields.stations in
-    let c = o.fields.count in
-    all_append Fits (header_fields r) _ (omega arith, (omega arith, (omega arith, (omega arith, tt))))
+    let f = o.fields in
+    all_append Fits (header_fields r) _ (search (rules, f.code, f.stations, f.count))
     (all_append Fits (flat_map event_fields (used_events r)) (flat_map lineup_fields (lineups_of r))
-    (events_fit r.stations (used_events r) o.fields.stations o.fields.events)
-    (lineups_fit (lineups_of r) (all_parts (used_lengths r) r.entries (full_entries r o) o.fields.lengths o.fields.entries)))
+    (all_flat_map (EventOk r.stations) Fits event_fields (event_fits r.stations f.stations) (used_events r) f.events)
+    (all_flat_map LineupOk Fits lineup_fields lineup_fits (lineups_of r) (all_parts (used_lengths r) r.entries (full_entries r o) f.lengths f.entries)))
 
 -- ---- there is room
 
@@ -79,18 +61,6 @@ file_size_lem bs r f =
     let b = size_bits (span (record_fields r)) in
     omega arith
 
-pub ready_file : (r : Recording) (n : ℕ) → Limits r → n ≡ file_size r → n < 2 ^ 50 → Ready n 0 (record_fields r ++ filling_fields (span (record_fields r)))
-ready_file r n o e h =
-    let p = span (record_fields r) in
-    let s = span_append (record_fields r) (filling_fields p) in
-    let g = zeros_span (gap p) in
-    let b = size_bits p in
-    record {
-      fits = all_append Fits (record_fields r) (filling_fields p) (record_fits r o) (zeros_fit (gap p));
-      room = omega arith;
-      countable = omega arith;
-    }
-
 -- ---- it is the file
 
 no_bits : (bs : List ℕ) (p : ℕ) → spelled bs p 0 ≡ 0
@@ -104,35 +74,49 @@ laid_zeros bs (suc n) p h =
     let e : suc n ≡ 1 + n = omega arith in
     rw (e, spelled_split bs p 1 n, h.0, laid_zeros bs n (p + 1) h.1) (omega arith)
 
-pub record_wrote : (a b c d : List ℕ) (p q s : ℕ) (r : Recording) → LaidOver a b 0 p (header_fields r) → LaidOver b c p q (flat_map event_fields (used_events r))
-    → LaidOver c d q s (flat_map lineup_fields (lineups_of r)) → LaidOver a d 0 s (record_fields r)
-unfolding record_fields
-record_wrote a b c d p q s r f g h = wrote_append a b d 0 p s _ _ f (wrote_append b c d p q s _ _ g h)
+-- a writer at the first bit of so many bytes has room for the fields of a recording, and then for the filling; they are the file
+module _ (r : Recording) {a : BitWriter} {old : List ℕ} (z : a.place ≡ 0) (s : a.bytes.now ≡ old) (n : length old ≡ file_size r) where
+  pub ready_record : Limits r → file_size r ≤ max_size → Ready a (record_fields r)
+  ready_record o m =
+      let b = size_bits (span (record_fields r)) in
+      let l = ap length s ∙ n in
+      record { fits = record_fits r o; room = omega arith }
 
-pub ready_filling : (a b : List ℕ) (p : ℕ) (r : Recording) → Ready (length a) 0 (record_fields r ++ filling_fields (span (record_fields r)))
-    → LaidOver a b 0 p (record_fields r) → Ready (length b) p (filling_fields p)
-ready_filling a b p r h f =
-    let s = f.end in
-    let t : span (record_fields r) ≡ p = omega arith in
-    rw t at (ready_next a b 0 p (record_fields r) (filling_fields (span (record_fields r))) h f)
+  pub ready_filling : {b : BitWriter} → file_size r ≤ max_size → LaidOver a b (record_fields r) → Ready b (filling_fields b.place)
+  ready_filling {b} m f =
+      let k = size_bits (span (record_fields r)) in
+      let l = f.long ∙ ap length s ∙ n in
+      let e = f.end in
+      let p : b.place ≡ span (record_fields r) = omega arith in
+      let g = zeros_span (gap b.place) in
+      record { fits = zeros_fit (gap b.place); room = rw (g, p) (omega arith) }
 
-pub file_laid : (a b c : List ℕ) (p q : ℕ) (r : Recording) → LaidOver a b 0 p (record_fields r) → LaidOver b c p q (filling_fields p) → length a ≡ file_size r → IsFile c r
-file_laid a b c p q r f g e =
-    let s = f.end in
-    let t : p ≡ span (record_fields r) = omega arith in
-    let l = g.long ∙ f.long ∙ e in
-    let z = size_bits (span (record_fields r)) in
-    record {
-      fields = laid_same b c 0 (record_fields r) (λ k _ i. g.others k (inl (omega arith))) f.laid;
-      filling = rw t at (laid_zeros c (gap p) p g.laid);
-      whole = omega arith;
-    }
+  pub file_laid : {b c : BitWriter} {bs : List ℕ} → LaidOver a b (record_fields r) → LaidOver b c (filling_fields b.place) → bs ≡ c.bytes.now → IsFile bs r
+  file_laid {b} {c} f g e =
+      let k = size_bits (span (record_fields r)) in
+      let l = g.long ∙ f.long ∙ ap length s ∙ n in
+      let p = f.end in
+      let t : b.place ≡ span (record_fields r) = omega arith in
+      rw e (record {
+        fields = laid_same b.bytes.now c.bytes.now 0 (record_fields r) (λ k _ i. g.others k (inl (omega arith))) (rw z at f.laid);
+        filling = rw t at (laid_zeros c.bytes.now (gap b.place) b.place g.laid);
+        whole = omega arith;
+      })
 
 -- ---- at the front of a buffer
 
-pub front_small : (n : ℕ) (bs : List ℕ) → ((i : ℕ) → get_or bs i 0 < 256) → (i : ℕ) → get_or (take n bs) i 0 < 256
-front_small n bs h i =
-    elim (cases_lt i n) [
-      | inl l ↦ (rw (get_or-take n bs i 0 l) (h i))
-      | inr l ↦ (let m = length-take n bs in rw (get_or_past (take n bs) i 0 (omega arith)) (omega arith))
-    ]
+front_small : (n : ℕ) (bs : List ℕ) → ((i : ℕ) → get_or bs i 0 < 256) → (i : ℕ) → get_or (take n bs) i 0 < 256
+front_small n bs h i = grind (arith, get_or-take, get_or_past, length-take, cases_lt i n, h i)
+
+pub front_written : (r : Recording) (n : ℕ) (old bs : List ℕ) → Limits r → n ≡ file_size r → n ≤ length old → IsFile bs r → ((i : ℕ) → get_or (bs ++ drop n old) i 0 < 256) → Written r old (bs ++ drop n old) n
+front_written r n old bs o s m f h =
+    let k : length bs ≡ n = file_size_lem bs r f ∙ sym s in
+    let g : IsFile (take n (bs ++ drop n old)) r = rw (take_at bs (drop n old) n k) f in
+    record {
+      limits = o;
+      size = s;
+      room = m;
+      file = g;
+      only = λ cs c i. same_file cs _ r c (front_small n (bs ++ drop n old) h) i g;
+      rest = drop_at bs (drop n old) n k;
+    }

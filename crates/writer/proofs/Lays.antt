@@ -1,36 +1,28 @@
 -- Fields written one after the other.
-use Rattle.std.proofs.Common.{◌≡◌, ℕ, suc, ◌+◌, ◌-◌, ◌%◌, ◌^◌, ◌<◌, ◌≤◌, List, [], ◌∷◌, ◌++◌, length, get_or, take, drop, replicate, sym, refl, ap, ◌∙◌, inl, inr, add-zero, mod-eq_of_lt, arith, take-append-drop, drop-drop}
+use Rattle.std.proofs.Common.{◌≡◌, ℕ, suc, ◌+◌, ◌%◌, ◌<◌, ◌≤◌, List, [], ◌∷◌, ◌++◌, length, get_or, take, drop, refl, ◌∙◌, inl, inr, add-zero, sym, arith}
 use Rattle.std.specs.List.{flat_map}
-use Rattle.std.proofs.lemmas.List.{drop_more, flat_map_more, replicate_more, take_all, take_more}
-use Rattle.bits.specs.Bits.{Overwritten}
-use Rattle.recording.specs.Layout.{Field, Laid, bits, lineup_fields, span}
+use Rattle.std.proofs.lemmas.List.{drop_more, drop_all, length-drop}
+use Rattle.recording.specs.Layout.{Field, Laid, bits, gap, lineup_fields, span}
 use Rattle.recording.specs.Record.{parts, total}
 use Rattle.recording.proofs.Layouts.{laid_append, laid_same, span_append}
-use Rattle.recording.proofs.Lineups.{all_split, parts_push, total_append}
-use Rattle.writer.specs.Laying.{Fits, LaidOver, Ready}
+use Rattle.recording.proofs.Lineups.{all_split}
+use Rattle.writer.specs.declared.bit_writer.BitWriter.{BitWriter}
+use Rattle.writer.specs.Laying.{Fits, LaidOver, Ready, filling_fields}
 
-pub wrote_none : (bs : List ℕ) (p : ℕ) → LaidOver bs bs p p []
+-- no field
+pub wrote_none : (w : BitWriter) → LaidOver w w []
 unfolding Laid span
-wrote_none bs p = record { laid = tt; end = sym (add-zero p); others = λ k h. refl; long = refl }
+wrote_none w = record { same_reference = refl; laid = tt; end = sym (add-zero w.place); others = λ k h. refl; long = refl }
 
--- one field, set to a value that fits it
-pub wrote_set : (old new : List ℕ) (p q w v : ℕ) → v < 2 ^ w → q ≡ p + w → Overwritten old new p w (v % 2 ^ w) → LaidOver old new p q (bits w v ∷ [])
-unfolding Laid span
-wrote_set old new p q w v h e o =
-    record {
-      laid = (o.field ∙ mod-eq_of_lt h, tt);
-      end = omega arith;
-      others = λ k l. o.others k (elim l [ inl a ↦ inl a | inr a ↦ inr (omega arith) ]);
-      long = o.long;
-    }
-
-pub wrote_append : (a b c : List ℕ) (p q r : ℕ) (fs gs : List Field) → LaidOver a b p q fs → LaidOver b c q r gs → LaidOver a c p r (fs ++ gs)
-wrote_append a b c p q r fs gs f g =
+-- fields, and then other fields
+pub wrote_append : {a b c : BitWriter} {fs gs : List Field} → LaidOver a b fs → LaidOver b c gs → LaidOver a c (fs ++ gs)
+wrote_append {a} {b} {c} {fs} {gs} f g =
     let e = f.end in
     let d = g.end in
     let s = span_append fs gs in
     record {
-      laid = laid_append c p fs gs (laid_same b c p fs (λ k _ l. g.others k (inl (omega arith))) f.laid) (rw e at g.laid);
+      same_reference = g.same_reference ∙ f.same_reference;
+      laid = laid_append c.bytes.now a.place fs gs (laid_same b.bytes.now c.bytes.now a.place fs (λ k _ l. g.others k (inl (omega arith))) f.laid) (rw e at g.laid);
       end = omega arith;
       others = λ k h. elim h [
         | inl l ↦ (g.others k (inl (omega arith)) ∙ f.others k (inl l))
@@ -39,81 +31,95 @@ wrote_append a b c p q r fs gs f g =
       long = g.long ∙ f.long;
     }
 
-module _ (n p : ℕ) (fs gs : List Field) (h : Ready n p (fs ++ gs)) where
-  pub ready_front : Ready n p fs
-  ready_front =
-      let s = span_append fs gs in
-      let a = h.room in
-      let b = h.countable in
-      record { fits = (all_split Fits fs gs h.fits).0; room = omega arith; countable = omega arith }
+-- a field, and then other fields
+pub wrote_more : {a b c : BitWriter} {f : Field} {fs : List Field} → LaidOver a b (f ∷ []) → LaidOver b c fs → LaidOver a c (f ∷ fs)
+wrote_more f g = wrote_append f g
 
-  ready_back : (q : ℕ) → q ≡ p + span fs → Ready n q gs
-  ready_back q e =
-      let s = span_append fs gs in
-      let a = h.room in
-      let b = h.countable in
-      record { fits = (all_split Fits fs gs h.fits).1; room = omega arith; countable = omega arith }
+-- ---- room for fields, and then for other fields
 
-pub ready_next : (old new : List ℕ) (p q : ℕ) (fs gs : List Field) → Ready (length old) p (fs ++ gs) → LaidOver old new p q fs → Ready (length new) q gs
-ready_next old new p q fs gs h w = rw w.long (ready_back (length old) p fs gs h q w.end)
+pub ready_front : {w : BitWriter} {fs : List Field} (gs : List Field) → Ready w (fs ++ gs) → Ready w fs
+ready_front {w} {fs} gs h =
+    let s = span_append fs gs in
+    let a = h.room in
+    record { fits = (all_split Fits fs gs h.fits).0; room = omega arith }
+
+pub ready_next : {a b : BitWriter} {fs : List Field} (gs : List Field) → Ready a (fs ++ gs) → LaidOver a b fs → Ready b gs
+ready_next {a} {b} {fs} gs h w =
+    let s = span_append fs gs in
+    let r = h.room in
+    let e = w.end in
+    let l = w.long in
+    record { fits = (all_split Fits fs gs h.fits).1; room = omega arith }
+
+-- ---- fields that are left to write
+
+-- of the fields fs, with which the writer a began, the fields gs are left at the writer b
+pub record Left (a b : BitWriter) (fs gs : List Field) : Type 0 where
+  pub ready : Ready b gs
+  pub whole : (c : BitWriter) → LaidOver b c gs → LaidOver a c fs
+
+pub left_all : {a : BitWriter} {fs : List Field} → Ready a fs → Left a a fs fs
+left_all h = record { ready = h; whole = λ c w. w }
+
+pub left_none : {a b : BitWriter} {fs : List Field} → Left a b fs [] → LaidOver a b fs
+left_none {a} {b} {fs} l = l.whole b (wrote_none b)
+
+pub left_more : {a b c : BitWriter} {fs gs hs : List Field} → Left a b fs (gs ++ hs) → LaidOver b c gs → Left a c fs hs
+left_more {a} {b} {c} {fs} {gs} {hs} l w = record { ready = ready_next hs l.ready w; whole = λ d v. l.whole d (wrote_append w v) }
 
 -- ---- items, one after the other
 
-module _ {A : Type 0} (fields : A → List Field) (xs : List A) (i : ℕ) (d : A) (h : i < length xs) where
-  pub ready_item : (n e : ℕ) → Ready n e (flat_map fields (drop i xs)) → Ready n e (fields (get_or xs i d))
-  ready_item n e r = ready_front n e (fields (get_or xs i d)) (flat_map fields (drop (i + 1) xs)) (rw (drop_more xs i d h) at r)
+module _ {A : Type 0} (fields : A → List Field) (xs : List A) (i : ℕ) {a b : BitWriter} {fs : List Field} (l : Left a b fs (flat_map fields (drop i xs))) where
+  -- the fields of the item at i, and then those of the items after it
+  left_item : (x : A) → i < length xs → x ≡ get_or xs i x → Left a b fs (fields x ++ flat_map fields (drop (i + 1) xs))
+  left_item x h e = rw (drop_more xs i x h, ← e) at l
 
-  pub ready_items : (n e q : ℕ) → q ≡ e + span (fields (get_or xs i d)) → Ready n e (flat_map fields (drop i xs)) → Ready n q (flat_map fields (drop (i + 1) xs))
-  ready_items n e q s r = ready_back n e (fields (get_or xs i d)) (flat_map fields (drop (i + 1) xs)) (rw (drop_more xs i d h) at r) q s
+  pub item_ready : (x : A) → i < length xs → x ≡ get_or xs i x → Ready b (fields x)
+  item_ready x h e = ready_front _ (left_item x h e).ready
 
-  pub wrote_item : (a b c : List ℕ) (p q r : ℕ) → LaidOver a b p q (flat_map fields (take i xs)) → LaidOver b c q r (fields (get_or xs i d))
-      → LaidOver a c p r (flat_map fields (take (i + 1) xs))
-  wrote_item a b c p q r f g =
-      rw (take_more xs i d h, ← flat_map_more fields [] (take i xs) (get_or xs i d)) (wrote_append a b c p q r (flat_map fields (take i xs)) (fields (get_or xs i d)) f g)
+  pub items_more : {c : BitWriter} (x : A) → i < length xs → x ≡ get_or xs i x → LaidOver b c (fields x) → Left a c fs (flat_map fields (drop (i + 1) xs))
+  items_more x h e w = left_more (left_item x h e) w
 
-pub wrote_all : {A : Type 0} (fields : A → List Field) (xs : List A) (i : ℕ) → length xs ≤ i → (a b : List ℕ) (p q : ℕ)
-    → LaidOver a b p q (flat_map fields (take i xs)) → LaidOver a b p q (flat_map fields xs)
-wrote_all fields xs i h a b p q f = rw (take_all i xs h) at f
+  pub items_all : length xs ≤ i → LaidOver a b fs
+  items_all h = left_none (rw (drop_all i xs h) at l)
 
 -- ---- line-ups, one after the other
 
-module _ (ns es : List ℕ) (i s : ℕ) (h : i < length ns) where
-  -- the line-up at i ends within the entries that all have
-  pub lineup_ends : s ≡ total (take i ns) → s + get_or ns i 0 ≤ total ns
-  unfolding total
-  lineup_ends e =
-      let a = ap total (take-append-drop i ns) in
-      let b = total_append (take i ns) (drop i ns) in
-      let c = ap total (drop_more ns i 0 h) in
-      omega arith
+-- of the fields fs, with which the writer a began, those of line-ups of the lengths ns are left at the writer b, and the entries es begin with theirs
+pub record LeftLineups (a b : BitWriter) (fs : List Field) (ns es : List ℕ) : Type 0 where
+  pub left : Left a b fs (flat_map lineup_fields (parts ns es))
+  pub there : total ns ≤ length es
 
-  pub lineups_start : s ≡ total (take i ns) → s + get_or ns i 0 ≡ total (take (i + 1) ns)
-  unfolding total
-  lineups_start e = rw (take_more ns i 0 h, total_append (take i ns) (get_or ns i 0 ∷ [])) (omega arith)
+module _ {a b : BitWriter} {fs : List Field} (ns es : List ℕ) (i : ℕ) (l : LeftLineups a b fs (drop i ns) es) where
+  -- the line-up at i, and then those after it
+  left_lineup : i < length ns → LeftLineups a b fs (get_or ns i 0 ∷ drop (i + 1) ns) es
+  left_lineup h = rw (drop_more ns i 0 h) at l
 
-  pub lineups_ready : (n q : ℕ) → Ready n q (flat_map lineup_fields (parts (drop i ns) (drop s es)))
-      → Ready n q (lineup_fields (take (get_or ns i 0) (drop s es)) ++ flat_map lineup_fields (parts (drop (i + 1) ns) (drop (s + get_or ns i 0) es)))
+  pub lineup_there : i < length ns → get_or ns i 0 ≤ length es
+  unfolding total
+  lineup_there h = let t = (left_lineup h).there in omega arith
+
+  pub lineup_ready : {xs : List ℕ} → i < length ns → xs ≡ take (get_or ns i 0) es → Ready b (lineup_fields xs)
   unfolding parts
-  lineups_ready n q r = rw (drop-drop (get_or ns i 0) s es) at (rw (drop_more ns i 0 h) at r)
+  lineup_ready h e = rw e (ready_front _ (left_lineup h).left.ready)
 
-  pub lineups_wrote : s ≡ total (take i ns) → (a b c : List ℕ) (p q r : ℕ) → LaidOver a b p q (flat_map lineup_fields (parts (take i ns) es))
-      → LaidOver b c q r (lineup_fields (take (get_or ns i 0) (drop s es))) → LaidOver a c p r (flat_map lineup_fields (parts (take (i + 1) ns) es))
-  lineups_wrote e a b c p q r f g =
-      rw (take_more ns i 0 h, parts_push (take i ns) es (get_or ns i 0), ← e, ← flat_map_more lineup_fields [] (parts (take i ns) es) (take (get_or ns i 0) (drop s es)))
-      (wrote_append a b c p q r (flat_map lineup_fields (parts (take i ns) es)) (lineup_fields (take (get_or ns i 0) (drop s es))) f g)
+  pub lineups_more : {c : BitWriter} {xs ys : List ℕ} → i < length ns → xs ≡ take (get_or ns i 0) es → ys ≡ drop (get_or ns i 0) es → LaidOver b c (lineup_fields xs)
+      → LeftLineups a c fs (drop (i + 1) ns) ys
+  unfolding parts total
+  lineups_more h e d w =
+      let k = left_lineup h in
+      let t = k.there in
+      rw d (record { left = left_more k.left (rw e at w); there = simp length-drop (omega arith) })
 
-pub lineups_all : (ns es : List ℕ) (i : ℕ) → length ns ≤ i → (a b : List ℕ) (p q : ℕ) → LaidOver a b p q (flat_map lineup_fields (parts (take i ns) es))
-    → LaidOver a b p q (flat_map lineup_fields (parts ns es))
-lineups_all ns es i h a b p q f = rw (take_all i ns h) at f
+  pub lineups_all : length ns ≤ i → LaidOver a b fs
+  unfolding parts
+  lineups_all h = left_none (rw (drop_all i ns h) at l.left)
 
 -- ---- the filling
 
-module _ (n i : ℕ) (h : i < n) where
-  next_bit : n - i ≡ suc (n - (i + 1))
-  next_bit = omega arith
-
-  pub ready_bit : (k q : ℕ) → Ready k q (replicate (n - i) (bits 1 0)) → Ready k q (bits 1 0 ∷ replicate (n - (i + 1)) (bits 1 0))
-  ready_bit k q r = rw next_bit at r
-
-  pub wrote_bit : (a b c : List ℕ) (p q r : ℕ) → LaidOver a b p q (replicate i (bits 1 0)) → LaidOver b c q r (bits 1 0 ∷ []) → LaidOver a c p r (replicate (i + 1) (bits 1 0))
-  wrote_bit a b c p q r f g = rw (← replicate_more i (bits 1 0)) (wrote_append a b c p q r (replicate i (bits 1 0)) (bits 1 0 ∷ []) f g)
+pub filling_more : {a b c : BitWriter} {fs : List Field} → Left a b fs (filling_fields b.place) → (b.place % 8 ≡ 0 → ⊥) → LaidOver b c (bits 1 0 ∷ []) → Left a c fs (filling_fields c.place)
+unfolding span gap
+filling_more {a} {b} {c} l h w =
+    let e = w.end in
+    let g : gap b.place ≡ suc (gap c.place) = omega arith in
+    left_more (rw g at l) w

@@ -1,25 +1,27 @@
 -- Fields written one after the other into bytes.
-use Rattle.std.specs.Prelude.{◌≡◌, ℕ, ◌+◌, ◌*◌, ◌^◌, ◌<◌, ◌≤◌, ◌⊎◌, List, length, replicate}
-use Rattle.bits.specs.Bits.{bit_at}
+use Rattle.std.specs.Prelude.{◌≡◌, ℕ, ◌+◌, ◌^◌, ◌<◌, ◌≤◌, ◌⊎◌, List, length, replicate}
+use Rattle.bits.specs.Bits.{bit_at, reach}
 use Rattle.recording.specs.Layout.{Field, Laid, bits, gap, span}
 use Rattle.recording.specs.Record.{All}
+use Rattle.writer.specs.declared.bit_writer.BitWriter.{BitWriter}
 
 -- the value of a field has no more bits than the field
 abbrev pub Fits : Field → Type 0
 Fits f = f.value < 2 ^ f.width
 
--- so many bytes have room for the fields fs from bit p on, and each value fits its field
-pub record Ready (bytes p : ℕ) (fs : List Field) : Type 0 where
+-- the writer has room for the fields fs, and each value fits its field
+pub record Ready (w : BitWriter) (fs : List Field) : Type 0 where
   pub fits : All Fits fs
-  pub room : p + span fs ≤ 8 * bytes
-  pub countable : p + span fs < 2 ^ 60
+  pub room : w.place + span fs ≤ reach w.bytes.now
 
--- the bytes new are the bytes old, but for the fields fs, which stand from bit p up to bit q
-pub record LaidOver (old new : List ℕ) (p q : ℕ) (fs : List Field) : Type 0 where
-  pub laid : Laid new p fs
-  pub end : q ≡ p + span fs
-  pub others : (k : ℕ) → (k < p) ⊎ (q ≤ k) → bit_at new k ≡ bit_at old k
-  pub long : length new ≡ length old
+-- the writer has written the fields fs where it stood, and stands after them; it still holds the same bytes, whose other
+-- bits stay
+pub record LaidOver (old new : BitWriter) (fs : List Field) : Type 0 where
+  pub same_reference : new.bytes.ghost_name ≡ old.bytes.ghost_name
+  pub laid : Laid new.bytes.now old.place fs
+  pub end : new.place ≡ old.place + span fs
+  pub others : (k : ℕ) → (k < old.place) ⊎ (new.place ≤ k) → bit_at new.bytes.now k ≡ bit_at old.bytes.now k
+  pub long : length new.bytes.now ≡ length old.bytes.now
 
 -- the filling after a field that ends before bit p, as fields of one bit
 abbrev pub filling_fields : ℕ → List Field

@@ -4,7 +4,7 @@ ghost use Rattle.reader.specs.Reading.{Faulty, Holds};
 ghost use Rattle.recording.specs.Record.{all_zero};
 ghost use Rattle.writer.specs.Faults.{write_told};
 ghost use Rattle.writer.specs.Writing.{Rewritten, Unwritten, Written};
-ghost use Rattle.std.specs.Prelude.{◌≡◌, length, take, MatchResult};
+ghost use Rattle.std.specs.Prelude.{◌≡◌, ◌<◌, ℕ, List, length, take, slice_index, MatchResult};
 
 use crate::fault::WriteFault;
 use crate::write;
@@ -27,16 +27,15 @@ pub fn write_then_read(
         × (again.new ≡ again.old)) }
 {
     let size = write(recording, buffer)?;
-    match read(&buffer[..size], again) {
-        Ok(()) => Ok(size),
-        Err(_) => unreachable(),
-    }
+    read(&buffer[..size], again).unwrap();
+    Ok(size)
 }
 
-/// Writes the recording of a file. The file itself is there for the contract, which says that it comes back.
-fn write_back(file: &[u8], recording: &Recording, buffer: &mut [u8]) -> Result<usize, WriteFault>
-    requires { Holds file.now recording.now }
-    ensures { Rewritten file.now buffer.old buffer.new result }
+/// Writes a recording. Whatever file the recording was read from, the writing gives that file back.
+fn write_back(recording: &Recording, buffer: &mut [u8]) -> Result<usize, WriteFault>
+    ensures { (file : List ℕ) → ((i : ℕ) → slice_index file i < 256)
+        → Holds file recording.now
+        → Rewritten file buffer.old buffer.new result }
 {
     write(recording, buffer)
 }
@@ -53,5 +52,5 @@ pub fn read_then_write(
         (λ e. Faulty file.now (read_told e) × (recording.new ≡ all_zero) × (buffer.new ≡ buffer.old)) }
 {
     read(file, recording)?;
-    Ok(write_back(file, recording, buffer))
+    Ok(write_back(recording, buffer))
 }
