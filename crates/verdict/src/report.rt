@@ -123,7 +123,10 @@ mod tests {
     fn leaves_a_short_buffer(rt: HostRuntime) {
         let verdict = Err(JudgeFault::Busy { event: 0 });
         let mut buffer = [b'.'; 17];
-        assert_eq!(rt; report(verdict, &mut buffer), Err(ReportFault::Short { needed: 18 }));
+        assert_eq!(rt;
+            report(verdict, &mut buffer),
+            Err(ReportFault::Short { needed: 18 })
+        );
         assert_eq!(rt; buffer, [b'.'; 17]);
     }
 }

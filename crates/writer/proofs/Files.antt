@@ -2,13 +2,15 @@
 use Rattle.std.proofs.Common.{◌≡◌, ℕ, zero, suc, ◌+◌, ◌*◌, ◌/◌, ◌<◌, ◌≤◌, List, [], ◌∷◌, ◌++◌, length, get_or, take, replicate, refl, ap, ◌∙◌, inl, arith, rules, length-take, drop, sym}
 use Rattle.std.specs.List.{flat_map}
 use Rattle.std.proofs.lemmas.List.{drop_at, get_or_past, get_or-take, take_at}
+use Rattle.std.proofs.lemmas.List.Elements.{recursion_from_All}
 use Rattle.std.proofs.lemmas.Bool.{cases_lt}
 use Rattle.bits.specs.Bits.{spelled}
 use Rattle.bits.proofs.Spells.{spelled_split}
 use Rattle.recording.specs.declared.record.Event.{Event}
 use Rattle.recording.specs.declared.record.Recording.{Recording}
 use Rattle.recording.specs.Layout.{IsFile, Laid, bits, entry_fields, event_fields, gap, header_fields, lineup_fields, record_fields, span}
-use Rattle.recording.specs.Record.{All, EventOk, Limits, lineups_of, max_call, max_stations, used_events, used_lengths}
+use Rattle.recording.specs.Record.{EventOk, Limits, lineups_of, max_call, max_stations, used_events, used_lengths}
+use Rattle.std.specs.List.{AllByRecursion}
 use Rattle.recording.proofs.Layouts.{kind_most, laid_same, same_file}
 use Rattle.recording.proofs.Lineups.{LineupOk, all_append, all_parts, full_entries}
 use Rattle.writer.specs.Laying.{Fits, LaidOver, Ready, filling_fields}
@@ -17,32 +19,30 @@ use Rattle.writer.specs.Writing.{Written, file_size, max_size}
 
 -- ---- every value fits its field
 
-all_flat_map : {A B : Type 0} (P : A → Type 0) (Q : B → Type 0) (f : A → List B) → ((x : A) → P x → All Q (f x)) → (xs : List A) → All P xs → All Q (flat_map f xs)
-unfolding All
+all_flat_map : {A B : Type 0} (P : A → Type 0) (Q : B → Type 0) (f : A → List B) → ((x : A) → P x → AllByRecursion Q (f x)) → (xs : List A) → AllByRecursion P xs → AllByRecursion Q (flat_map f xs)
 all_flat_map P Q f each [] h = tt
 all_flat_map P Q f each (x ∷ xs) h = all_append Q (f x) (flat_map f xs) (each x h.0) (all_flat_map P Q f each xs h.1)
 
-event_fits : (st : ℕ) → st ≤ max_stations → (e : Event) → EventOk st e → All Fits (event_fields e)
-unfolding event_fields All
+event_fits : (st : ℕ) → st ≤ max_stations → (e : Event) → EventOk st e → AllByRecursion Fits (event_fields e)
+unfolding event_fields
 event_fits st h e o = let k = kind_most e.kind in grind (arith, k, o.station, o.order)
 
-lineup_fits : (l : List ℕ) → LineupOk l → All Fits (lineup_fields l)
-unfolding lineup_fields All
+lineup_fits : (l : List ℕ) → LineupOk l → AllByRecursion Fits (lineup_fields l)
+unfolding lineup_fields
 lineup_fits l o = (omega (arith, o.0), all_flat_map (λ c. c ≤ max_call) Fits entry_fields (λ c h. (omega arith, tt)) l o.1)
 
-zeros_fit : (n : ℕ) → All Fits (replicate n (bits 1 0))
-unfolding All
+zeros_fit : (n : ℕ) → AllByRecursion Fits (replicate n (bits 1 0))
 zeros_fit zero = tt
 zeros_fit (suc n) = (omega arith, zeros_fit n)
 
-record_fits : (r : Recording) → Limits r → All Fits (record_fields r)
-unfolding record_fields All
+record_fits : (r : Recording) → Limits r → AllByRecursion Fits (record_fields r)
+unfolding record_fields
 record_fits r o =
     let f = o.fields in
     all_append Fits (header_fields r) _ (search (rules, f.code, f.stations, f.count))
     (all_append Fits (flat_map event_fields (used_events r)) (flat_map lineup_fields (lineups_of r))
-    (all_flat_map (EventOk r.stations) Fits event_fields (event_fits r.stations f.stations) (used_events r) f.events)
-    (all_flat_map LineupOk Fits lineup_fields lineup_fits (lineups_of r) (all_parts (used_lengths r) r.entries (full_entries r o) f.lengths f.entries)))
+    (all_flat_map (EventOk r.stations) Fits event_fields (event_fits r.stations f.stations) (used_events r) (recursion_from_All _ _ f.events))
+    (all_flat_map LineupOk Fits lineup_fields lineup_fits (lineups_of r) (all_parts (used_lengths r) r.entries (full_entries r o) (recursion_from_All _ _ f.lengths) (recursion_from_All _ _ f.entries))))
 
 -- ---- there is room
 

@@ -2,7 +2,7 @@
 use Rattle.std.specs.Prelude.{◌≡◌, ℕ, ◌+◌, ◌^◌, ◌<◌, ◌≤◌, ◌⊎◌, List, length, replicate}
 use Rattle.bits.specs.Bits.{bit_at, reach}
 use Rattle.recording.specs.Layout.{Field, Laid, bits, gap, span}
-use Rattle.recording.specs.Record.{All}
+use Rattle.std.specs.List.{AllByRecursion}
 use Rattle.writer.specs.declared.bit_writer.BitWriter.{BitWriter}
 
 -- the value of a field has no more bits than the field
@@ -11,7 +11,7 @@ Fits f = f.value < 2 ^ f.width
 
 -- the writer has room for the fields fs, and each value fits its field
 pub record Ready (w : BitWriter) (fs : List Field) : Type 0 where
-  pub fits : All Fits fs
+  pub fits : AllByRecursion Fits fs
   pub room : w.place + span fs ≤ reach w.bytes.now
 
 -- the writer has written the fields fs where it stood, and stands after them; it still holds the same bytes, whose other

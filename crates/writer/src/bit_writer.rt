@@ -1,5 +1,5 @@
 //! Fields written into the caller's bytes, one after the other.
-#![tactic(auto, unfolding(recording::specs::Layout::Laid, recording::specs::Layout::gap, recording::specs::Layout::span, recording::specs::Record::All))]
+#![tactic(auto, unfolding(recording::specs::Layout::Laid, recording::specs::Layout::gap, recording::specs::Layout::span))]
 
 ghost use Rattle.std.specs.Prelude.{◌≡◌, [], ◌∷◌};
 ghost use Rattle.bits.specs.Widths.{bits_of};

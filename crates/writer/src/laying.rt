@@ -1,5 +1,5 @@
 //! What a file holds, laid out as fields that stand one after the other.
-#![tactic(auto, using(crate::proofs::Lays::wrote_more), unfolding(recording::specs::Layout::event_fields, recording::specs::Layout::lineup_fields, recording::specs::Layout::span, recording::specs::Record::All))]
+#![tactic(auto, using(crate::proofs::Lays::wrote_more), unfolding(recording::specs::Layout::event_fields, recording::specs::Layout::lineup_fields, recording::specs::Layout::span))]
 
 ghost use Rattle.std.specs.Prelude.{◌≡◌, ◌≤◌, List, length};
 ghost use Rattle.std.specs.List.{flat_map};
@@ -31,7 +31,7 @@ impl Lay for Event {
     ghost fields = { event_fields };
 
     fn lay(&self, into: &mut BitWriter) {
-        into.put(KIND_WIDTH, self.kind.number());
+        into.put(KIND_WIDTH, u16::from(self.kind));
         into.put(STATION_WIDTH, self.station);
         if self.kind.carries_order() {
             into.put(ORDER_WIDTH, self.order);
