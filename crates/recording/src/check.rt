@@ -42,52 +42,73 @@ fn check_header(recording: &Recording) -> Result<usize, FieldFault>
     Ok(bit + COUNT_WIDTH.bits())
 }
 
-/// What a record has many of, one after the other in its file: events, and the entries of line-ups.
-trait Item {
-    /// What the ranges of an item depend on.
-    type Context: Copy;
+/// Items of one kind, which a file holds one after the other.
+trait Items {
+    type Item;
 
-    ghost tries: { Self.Context → ℕ → Self → List Tried };
+    /// What is tried of an item whose fields stand from a bit on.
+    ghost tries: { Self → ℕ → Self.Item → List Tried };
 
-    ghost fields: { Self → List Field };
+    ghost fields: { Self.Item → List Field };
 
     /// No item has more bits than these.
     ghost most: { ℕ };
 
     /// Tries an item.
-    fn check(&self, context: Self::Context, bit: usize) -> Result<usize, FieldFault>
+    fn check_one(&self, item: &Self::Item, bit: usize) -> Result<usize, FieldFault>
         requires { bit < 2 ^ 60 }
-        ensures { Checks result (tries context bit self.now)
-            (λ end. (end ≡ bit + span (fields self.now)) × (end ≤ bit + most)) };
+        ensures { Checks result (tries self.now bit item.now)
+            (λ end. (end ≡ bit + span (fields item.now)) × (end ≤ bit + most)) };
+
+    /// Tries items.
+    fn check_all(&self, items: &[Self::Item], bit: usize) -> Result<usize, FieldFault>
+        requires { bit + most * length items.now < 2 ^ 60 }
+        ensures { Checks result (many_tries (tries self.now) fields bit items.now)
+            (λ end. (end ≡ bit + span (flat_map fields items.now)) × (end ≤ bit + most * length items.now)) }
+    {
+        let mut end = bit;
+        for item in items {
+            end = self.check_one(item, end)?;
+        }
+        Ok(end)
+    }
 }
 
-/// An event, whose station is below the number of stations.
-impl Item for Event {
-    type Context = u16;
+/// The events of a recording with so many stations.
+#[derive(Clone, Copy)]
+struct Events {
+    stations: u16,
+}
 
-    ghost tries = { event_tries };
+impl Items for Events {
+    type Item = Event;
+
+    ghost tries = { λ events. event_tries events.stations };
 
     ghost fields = { event_fields };
 
     ghost most = { 18 };
 
-    fn check(&self, stations: u16, bit: usize) -> Result<usize, FieldFault> {
+    fn check_one(&self, event: &Event, bit: usize) -> Result<usize, FieldFault> {
         let station = bit + KIND_WIDTH.bits();
-        ranged(station, 0, stations.saturating_sub(1), self.station)?;
+        ranged(station, 0, self.stations.saturating_sub(1), event.station)?;
         let end = station + STATION_WIDTH.bits();
-        if self.kind.carries_order() {
-            ranged(end, 0, MAX_ORDER, self.order)?;
+        if event.kind.carries_order() {
+            ranged(end, 0, MAX_ORDER, event.order)?;
             Ok(end + ORDER_WIDTH.bits())
         } else {
-            ranged(bit, 0, 0, self.order)?;
+            ranged(bit, 0, 0, event.order)?;
             Ok(end)
         }
     }
 }
 
-/// An entry, which is the number of a call.
-impl Item for u16 {
-    type Context = ();
+/// The entries of a line-up.
+#[derive(Clone, Copy)]
+struct Entries;
+
+impl Items for Entries {
+    type Item = u16;
 
     ghost tries = { λ _. entry_tries };
 
@@ -95,23 +116,10 @@ impl Item for u16 {
 
     ghost most = { 9 };
 
-    fn check(&self, _context: (), bit: usize) -> Result<usize, FieldFault> {
-        ranged(bit, 0, MAX_CALL, *self)?;
+    fn check_one(&self, entry: &u16, bit: usize) -> Result<usize, FieldFault> {
+        ranged(bit, 0, MAX_CALL, *entry)?;
         Ok(bit + ENTRY_WIDTH.bits())
     }
-}
-
-/// Tries items, one after the other.
-fn check_all<T: Item>(items: &[T], context: T::Context, bit: usize) -> Result<usize, FieldFault>
-    requires { bit + T.most * length items.now < 2 ^ 60 }
-    ensures { Checks result (many_tries (T.tries context) T.fields bit items.now)
-        (λ end. (end ≡ bit + span (flat_map T.fields items.now)) × (end ≤ bit + T.most * length items.now)) }
-{
-    let mut end = bit;
-    for item in items {
-        end = item.check(context, end)?;
-    }
-    Ok(end)
 }
 
 /// Tries a line-up, which is the first so many of the entries.
@@ -125,7 +133,7 @@ fn check_lineup(count: u16, entries: &[u16], bit: usize) -> Result<Rest<'_>, Fie
 {
     ranged(bit, 0, MAX_ENTRIES as u16, count)?;
     let (lineup, entries) = entries.split_at(count as usize);
-    let bit = check_all(lineup, (), bit + LENGTH_WIDTH.bits())?;
+    let bit = Entries.check_all(lineup, bit + LENGTH_WIDTH.bits())?;
     Ok(Rest { bit, entries })
 }
 
@@ -166,9 +174,10 @@ fn check_used(recording: &Recording) -> Result<Rest<'_>, FieldFault>
         (λ e. Outside recording.now (field_told e)) }
 {
     let bit = check_header(recording)?;
-    let events = &recording.events[0..recording.count as usize];
-    let bit = check_all(events, recording.stations, bit)?;
-    let lengths = &recording.lengths[0..recording.stations as usize];
+    let stations = recording.stations;
+    let events = &recording.events[..recording.count as usize];
+    let bit = Events { stations }.check_all(events, bit)?;
+    let lengths = &recording.lengths[..stations as usize];
     check_lineups(lengths, &recording.entries, bit)
 }
 

@@ -1,5 +1,4 @@
-use Rattle.std.proofs.Common.{◌-◌, sym, ◌∙◌, arith, length-take}
-use native.Mathlib.Nat.{sub-zero}
+use Rattle.std.proofs.Common.{sym, ◌∙◌, arith, length-take}
 use Rattle.std.proofs.lemmas.Result.{MatchResult-weaker}
 use Rattle.bits.proofs.Exits.{at_fault}
 use Rattle.recording.specs.Layout.{span}
@@ -14,20 +13,20 @@ pub check_all-requires : goal.check_all-requires
 unfolding span
 check_all-requires c =
     let h = c.in_ok-bit.ensures in
-    let n = length-take (c.args.recording.now.count - 0) c.args.recording.now.events in
+    let n = length-take c.args.recording.now.count c.args.recording.now.events in
     omega (arith, n, h.1.0, h.1.3)
 
 pub returns-in_err-bit-2 : goal.returns-in_err-bit-2
 returns-in_err-bit-2 c =
     let h = c.in_ok-bit.ensures in
-    at_fault _ _ c.from_residual-in_err-bit-2.result _ c.from_residual-in_err-bit-2.ensures.1 (events_outside c.args.recording.now h.0 _ (rw (sub-zero, h.1.0) at c.in_err-bit-2.ensures))
+    at_fault _ _ c.from_residual-in_err-bit-2.result _ c.from_residual-in_err-bit-2.ensures.1 (events_outside c.args.recording.now h.0 _ (rw h.1.0 at c.in_err-bit-2.ensures))
 
 pub check_lineups-requires-clause-countable : goal.check_lineups-requires-clause-countable
 unfolding span
 check_lineups-requires-clause-countable c =
     let h = c.in_ok-bit.ensures in
     let b = c.in_ok-bit-2.ensures in
-    let n = length-take (c.args.recording.now.count - 0) c.args.recording.now.events in
+    let n = length-take c.args.recording.now.count c.args.recording.now.events in
     omega (arith, h.1.0, b.1.1, n, h.1.3)
 
 pub returns : goal.returns
@@ -35,8 +34,8 @@ unfolding span
 returns c =
     let h = c.in_ok-bit.ensures in
     let n = length-take c.args.recording.now.count c.args.recording.now.events in
-    let b = rw (sub-zero, h.1.0) at c.in_ok-bit-2.ensures in
-    MatchResult-weaker c.check_lineups.result (rw sub-zero at c.check_lineups.ensures)
+    let b = rw h.1.0 at c.in_ok-bit-2.ensures in
+    MatchResult-weaker c.check_lineups.result c.check_lineups.ensures
     (λ end l. (
       all_used c.args.recording.now h.0 b.0 _ b.1.0 l.0,
       l.1.0 ∙ sym (bits_used c.args.recording.now h.0 b.0 _ b.1.0),

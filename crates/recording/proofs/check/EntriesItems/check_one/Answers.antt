@@ -3,7 +3,7 @@ use Rattle.bits.proofs.Exits.{at_fault}
 use Rattle.recording.specs.Layout.{span}
 use Rattle.recording.specs.Ranges.{try_all}
 use Rattle.recording.proofs.Ranges.{ranged_in, ranged_out}
-use Rattle.recording.proofs.check.U16Item.check.Goals as goal
+use Rattle.recording.proofs.check.EntriesItems.check_one.Goals as goal
 
 pub returns-in_err-ranged : goal.returns-in_err-ranged
 unfolding try_all
