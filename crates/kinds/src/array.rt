@@ -1,6 +1,6 @@
 ghost use Rattle.std.specs.Prelude.{◌≡◌, ◌<◌, ◌≤◌, ◌⊎◌, MatchResult};
 ghost use Rattle.bank.specs.Model.{empty_bank, max_depth, max_lanes};
-ghost use Rattle.kinds.specs.Arrays.{array_model};
+ghost use Rattle.kinds.specs.Arrays.{array_model, array_sound};
 
 use crate::fault::BankFault;
 use crate::kind::Kind;
@@ -19,7 +19,7 @@ pub struct ArrayBank<K> {
 impl<K: Kind> Bank for ArrayBank<K> {
     ghost model = { array_model K.Kind.rule };
 
-    ghost sound = { λ b. b.table.sound (K.Kind.rule b.kind) };
+    ghost sound = { λ b. array_sound K.Kind.rule b };
 
     fn lanes(&self) -> usize {
         self.table.count()
