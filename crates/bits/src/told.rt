@@ -17,6 +17,7 @@ pub enum Place {
 /// What a refusal tells: its number and its place.
 #[derive(Clone, Copy, Debug, PartialEq, Eq, Hash)]
 pub struct Told {
+    // No enum of its own: the numbers are what a report prints, and their cases are those of the faults.
     pub number: usize,
     pub place: Place,
 }

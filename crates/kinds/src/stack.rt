@@ -8,6 +8,7 @@ use crate::orders::newest;
 pub type Stack = ArrayBank<Newest>;
 
 /// The kind of a stack's lanes.
+// Apart from `Oldest`, which differs in the end alone: a type for both would need a trait for the end, of as many lines.
 #[derive(Clone, Copy, Debug, Default, PartialEq, Eq, Hash)]
 pub struct Newest;
 

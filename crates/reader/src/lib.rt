@@ -31,6 +31,7 @@ use recording::record::{
 /// The fields before the events, but for the edition, which is 1.
 #[derive(Clone, Copy)]
 struct Header {
+    // A number, as the record has it.
     code: u16,
     stations: u16,
     count: u16,

@@ -2,7 +2,8 @@
 //!
 //! What a record holds is tried in the sequence of its file, and a fault is told at the bit where the field would stand. So
 //! the functions that try fields are told the bit at which their part of the file begins, and give the bit after that part.
-//! Those that try places not in use are told the bit at which such a place is told.
+//! They ask that the bit is below a power of two, so that no sum can wrap; a type with that bound would have it shown at each
+//! sum all the same.
 ghost use Rattle.std.specs.Prelude.{◌≡◌, ℕ, ◌+◌, ◌*◌, ◌^◌, ◌<◌, ◌≤◌, List, length, take, drop, Ok, Err, MatchResult, IsTrue, All, true, ◌↔◌};
 ghost use Rattle.recording.specs.Faults.{field_told};
 ghost use Rattle.recording.specs.Layout.{Field, entry_fields, event_fields, header_fields, lineup_fields, max_bits, record_fields, span};

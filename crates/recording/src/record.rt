@@ -97,10 +97,12 @@ pub struct Event {
 /// A recording of a store's run: its events, and for each station a line-up, which is a sequence of calls that claims to be
 /// a linearization of that station's part of the run: its posts, the draws that gave its orders, and the empty draws.
 /// Places that are not used hold zero.
+// Fixed tables with their counts beside: there is no heap, and what the places not in use hold is part of a record.
 #[derive(Drop)]
 pub struct Recording {
     /// The kind of lane (the station's own part of the store, which holds its orders until they are drawn) that the run
     /// was made over: 1 queue, 2 stack, 3 pool, 0 any other rule.
+    // A number and no `LaneKind`, since a record can hold any: the range check refuses one above 3 by 2, at its bit.
     pub code: u16,
     /// How many stations there are.
     pub stations: u16,

@@ -40,6 +40,7 @@ pub enum JudgeFault {
     Missing { station: usize, length: usize },
 }
 
+// By hand, as the derive's conversion promises nothing.
 impl From<ReadFault> for JudgeFault {
     ghost from_gives = { λ e r. r ≡ Read e };
 

@@ -4,6 +4,7 @@ use crate::fault::JudgeFault;
 #[derive(Clone, Copy, Debug, PartialEq, Eq, Hash)]
 pub struct Accepted {
     /// The code of its kind of lane.
+    // A number and no `LaneKind`, since a report has a word for every code.
     pub code: u16,
     /// Its number of stations.
     pub stations: usize,
