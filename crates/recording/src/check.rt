@@ -30,6 +30,7 @@ struct Rest<'a> {
 }
 
 /// Tries the fields before the events, from the first bit on.
+#[tactic(auto, using(crate::proofs::Tries::edition_in), unfolding(crate::specs::Ranges::try_all, crate::specs::Ranges::ranged, crate::specs::Layout::span))]
 fn check_header(recording: &Recording) -> Result<usize, FieldFault>
     ensures { Checks result (header_tries recording.now) (λ end. (end ≡ span (header_fields recording.now))
         × (1 ≤ recording.now.stations) × (recording.now.stations ≤ max_stations) × (recording.now.count ≤ max_events)) }
@@ -90,6 +91,7 @@ impl Items for Events {
 
     ghost most = { 18 };
 
+    #[tactic(auto, using(crate::proofs::Tries::kind_in), unfolding(crate::specs::Ranges::event_tries, crate::specs::Layout::event_fields, crate::specs::Ranges::try_all, crate::specs::Ranges::ranged, crate::specs::Layout::span))]
     fn check_one(&self, event: &Event, bit: usize) -> Result<usize, FieldFault> {
         let station = bit + KIND_WIDTH.bits();
         ranged(station, 0, self.stations.saturating_sub(1), event.station)?;
@@ -117,6 +119,7 @@ impl Items for Entries {
 
     ghost most = { 9 };
 
+    #[tactic(auto, unfolding(crate::specs::Ranges::try_all, crate::specs::Ranges::ranged, crate::specs::Layout::span))]
     fn check_one(&self, entry: &u16, bit: usize) -> Result<usize, FieldFault> {
         ranged(bit, 0, MAX_CALL, *entry)?;
         Ok(bit + ENTRY_WIDTH.bits())
@@ -124,6 +127,7 @@ impl Items for Entries {
 }
 
 /// Tries a line-up, which is the first so many of the entries.
+#[tactic(auto, unfolding(crate::specs::Ranges::lineup_tries, crate::specs::Layout::lineup_fields, crate::specs::Ranges::try_all, crate::specs::Ranges::ranged, crate::specs::Layout::span))]
 fn check_lineup(count: u16, entries: &[u16], bit: usize) -> Result<Rest<'_>, FieldFault>
     requires room { max_entries ≤ length entries.now }
     requires countable { bit < 2 ^ 58 }
