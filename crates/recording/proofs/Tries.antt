@@ -1,5 +1,5 @@
 -- Ranges tried one after the other.
-use Rattle.std.proofs.Common.{◌≡◌, ℕ, ◌+◌, ◌<◌, ◌≤◌, List, [], ◌∷◌, ◌++◌, length, get_or, take, drop, Ok, Err, Result, sym, refl, ap, ◌∙◌, arith, lit≤, drop_of_length-le, drop-drop}
+use Rattle.std.proofs.Common.{◌≡◌, ℕ, ◌+◌, ◌<◌, ◌≤◌, List, [], ◌∷◌, ◌++◌, length, get_or, take, drop, Ok, Err, Result, sym, refl, ap, ◌∙◌, arith, lit≤, drop_of_length-le, drop-drop, length-drop}
 use Rattle.std.specs.List.{AllByRecursion, flat_map}
 use Rattle.std.proofs.lemmas.List.{drop_more}
 use Rattle.std.proofs.lemmas.List.Elements.{All-cons, All-nil}
@@ -100,6 +100,11 @@ module _ (ns rest : List ℕ) (i : ℕ) where
   pub rest_done : length ns ≤ i → drop (total (drop i ns)) rest ≡ rest
   unfolding total
   rest_done h = rw (drop_of_length-le ns h)
+
+-- what the loops use
+pub ruleset item_steps = (items_more, items_stop, items_done, span_more, span_done)
+
+pub ruleset lineup_steps = (lineups_more, lineups_stop, lineups_done, parts_more, parts_done, rest_more, rest_done, length-drop)
 
 -- ---- what it says
 

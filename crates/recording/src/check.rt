@@ -63,6 +63,7 @@ trait Items {
             (λ end. (end ≡ bit + span (fields item.now)) × (end ≤ bit + most)) };
 
     /// Tries items.
+    #[tactic(auto, using(crate::proofs::Tries::item_steps))]
     fn check_all(&self, items: &[Self::Item], bit: usize) -> Result<usize, FieldFault>
         requires { bit + most * length items.now < 2 ^ 60 }
         ensures { Checks result (many_tries (tries self.now) fields bit items.now)
@@ -143,6 +144,7 @@ fn check_lineup(count: u16, entries: &[u16], bit: usize) -> Result<Rest<'_>, Fie
 }
 
 /// Tries line-ups of these lengths, one after the other.
+#[tactic(auto, using(crate::proofs::Tries::lineup_steps))]
 fn check_lineups<'a>(
     lengths: &[u16],
     entries: &'a [u16; ALL_ENTRIES],
