@@ -1,5 +1,5 @@
 -- A record passes its ranges exactly when it is within the limits.
-use Rattle.std.proofs.Common.{◌≡◌, ℕ, zero, suc, ◌+◌, ◌-◌, ◌≤◌, Bool, true, false, ◌&&◌, ◌==◌, List, [], ◌∷◌, ◌++◌, length, take, drop, replicate, Ok, Err, IsTrue, sym, refl, ap, ◌∙◌, inr, arith, take-add}
+use Rattle.std.proofs.Common.{◌≡◌, ℕ, zero, suc, ◌+◌, ◌-◌, ◌≤◌, Bool, true, false, ◌&&◌, ◌==◌, List, [], ◌∷◌, ◌++◌, length, take, drop, replicate, Ok, Err, IsTrue, sym, refl, ap, ◌∙◌, inr, arith, take-add, length-take}
 use Rattle.std.specs.List.{All, AllByRecursion, flat_map}
 use Rattle.std.proofs.lemmas.List.Elements.{All-from_recursion, recursion_from_All}
 use Rattle.std.proofs.lemmas.Bool.{and_parts, both_ways, eqb-true}
@@ -273,3 +273,6 @@ module _ (r : Recording) where
     pub idle_outside : (Idle r → ⊥) → Outside r (told 2 (AtBit p))
     unfolding record_tries
     idle_outside h = rw e (outside _ (try_past (used_tries r) _ a ∙ zeros_fail _ (unused r) (not_idle h)))
+
+-- what the check of the fields uses
+pub ruleset used_steps = (header_outside, events_outside, lineups_outside, all_used, bits_used, length-take)

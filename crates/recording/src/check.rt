@@ -172,6 +172,7 @@ fn all_are<T: PartialEq>(items: &[T], one: &T) -> bool
 }
 
 /// Tries the fields, in the sequence of the file.
+#[tactic(auto, using(crate::proofs::Checks::used_steps), unfolding(crate::specs::Layout::span))]
 fn check_used(recording: &Recording) -> Result<Rest<'_>, FieldFault>
     ensures { MatchResult result
         (λ rest. (try_all (used_tries recording.now) ≡ Ok tt)
