@@ -276,3 +276,6 @@ module _ (r : Recording) where
 
 -- what the check of the fields uses
 pub ruleset used_steps = (header_outside, events_outside, lineups_outside, all_used, bits_used, length-take)
+
+-- what the check of the places not in use uses
+pub ruleset unused_steps = (used_inside, most_entries)

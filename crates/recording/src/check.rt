@@ -190,6 +190,7 @@ fn check_used(recording: &Recording) -> Result<Rest<'_>, FieldFault>
 }
 
 /// Tries the places that are not in use, after the fields.
+#[tactic(auto, using(crate::proofs::Checks::unused_steps))]
 fn check_unused(recording: &Recording, rest: Rest) -> Result<(), FieldFault>
     requires used { try_all (used_tries recording.now) ≡ Ok tt }
     requires bit { rest.bit ≡ span (record_fields recording.now) }

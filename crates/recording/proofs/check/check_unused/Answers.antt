@@ -6,18 +6,6 @@ use Rattle.recording.proofs.Padded.{rest_all}
 use Rattle.recording.proofs.check.check_unused.Goals as goal
 use Rattle.recording.proofs.check.check_unused.Goals.{else-all_are-via-then-all_are+then-all_are-2+else-all_are-3, else-all_are-via-then-all_are+else-all_are-2, else-all_are-via-else-all_are}
 
-pub slice_bounds-events-count : goal.slice_bounds-events-count
-slice_bounds-events-count c = (used_inside c.args.recording.now c.requires.used).count
-
-pub slice_bounds-events-start : goal.slice_bounds-events-start
-slice_bounds-events-start c = (used_inside c.args.recording.now c.requires.used).count
-
-pub slice_bounds-lengths-count : goal.slice_bounds-lengths-count
-slice_bounds-lengths-count c = (used_inside c.args.recording.now c.requires.used).stations
-
-pub slice_bounds-lengths-start : goal.slice_bounds-lengths-start
-slice_bounds-lengths-start c = (used_inside c.args.recording.now c.requires.used).stations
-
 pub returns-then-all_are-3 : goal.returns-then-all_are-3
 returns-then-all_are-3 c =
     let r = c.args.recording.now in
