@@ -1,4 +1,3 @@
-pub mod Exits
 pub mod Spells
 mod Windows
 pub mod Widths

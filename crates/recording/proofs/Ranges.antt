@@ -34,9 +34,6 @@ unfolding ranged
 ranged_told p lo hi v t h = grind (arith, nat_tests)
 
 -- what the range check gives
-pub ranged_in : (p lo hi v x : ℕ) → (x ≡ v) × (lo ≤ v) × (v ≤ hi) → ranged p lo hi v ≡ Ok x
-ranged_in p lo hi v x h = rw h.0 (inside_ranged p lo hi v h.1 h.2)
-
 pub ranged_out : (p lo hi v : ℕ) (t : Told) → (t ≡ told 2 (AtBit p)) × ((v < lo) ⊎ (hi < v)) → ranged p lo hi v ≡ Err t
 unfolding ranged
 ranged_out p lo hi v t h = let e = h.0 in let k = h.1 in grind (arith, nat_tests)

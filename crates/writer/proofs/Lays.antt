@@ -58,9 +58,6 @@ pub record Left (a b : BitWriter) (fs gs : List Field) : Type 0 where
   pub ready : Ready b gs
   pub whole : (c : BitWriter) → LaidOver b c gs → LaidOver a c fs
 
-pub left_all : {a : BitWriter} {fs : List Field} → Ready a fs → Left a a fs fs
-left_all h = record { ready = h; whole = λ c w. w }
-
 pub left_none : {a b : BitWriter} {fs : List Field} → Left a b fs [] → LaidOver a b fs
 left_none {a} {b} {fs} l = l.whole b (wrote_none b)
 
