@@ -24,7 +24,7 @@ module _ (n : ℕ) (r : Recording) (zero : r ≡ all_zero) where
   pub entries_padded : (es : List ℕ) → length es ≡ n → es ++ drop n r.entries ≡ padded all_entries 0 es
   entries_padded es l = rw (ap (λ (x : Recording). x.entries) zero) (padded_front all_entries 0 es n l)
 
--- line-ups that entries hold at their front, and what stands after them
+-- the line-ups at the front of the entries, and what stands after them
 pub parts_front : (ns es : List ℕ) → (flat (parts ns es) ≡ take (total ns) es) × (take (total ns) es ++ drop (total ns) es ≡ es)
 parts_front ns es = (flat_parts ns es, take-append-drop (total ns) es)
 

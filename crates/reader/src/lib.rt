@@ -7,12 +7,12 @@
 
 pub mod fault;
 
-ghost use Rattle.std.specs.Prelude.{◌≡◌, ℕ, ◌+◌, ◌*◌, ◌^◌, ◌<◌, ◌≤◌, List, length, take, drop, replicate, IfOk, OnOk, MatchResult};
+ghost use Rattle.std.specs.Prelude.{◌≡◌, ℕ, ◌+◌, ◌*◌, ◌^◌, ◌<◌, ◌≤◌, List, length, take, drop, IfOk, MatchResult};
 ghost use Rattle.bits.specs.Widths.{bits_of};
 ghost use Rattle.reader.specs.Faults.{read_told};
 ghost use Rattle.recording.specs.Layout.{gap};
 ghost use Rattle.reader.specs.Reading.{Faulty, Gives, Holds, Moved, Reading, decode, entry_at, event_at, field_at, filling_at, header_at, item_bits, lineup_at, lineup_bits, many_at};
-ghost use Rattle.recording.specs.Record.{all_entries, all_zero, max_entries, max_events, max_kind, max_stations, number_of, parts, total};
+ghost use Rattle.recording.specs.Record.{all_zero, max_entries, max_events, max_kind, max_stations, number_of, parts, total};
 
 use crate::fault::ReadFault;
 use bits::cursor::BitCursor;
@@ -24,8 +24,8 @@ use recording::layout::{
 };
 use recording::range::ranged;
 use recording::record::{
-    ALL_ENTRIES, Event, EventKind, MAX_CALL, MAX_CODE, MAX_ENTRIES, MAX_EVENTS, MAX_ORDER,
-    MAX_STATIONS, Recording,
+    Event, EventKind, MAX_CALL, MAX_CODE, MAX_ENTRIES, MAX_EVENTS, MAX_ORDER, MAX_STATIONS,
+    Recording,
 };
 
 /// The fields before the events, but for the edition, which is 1.
@@ -168,7 +168,7 @@ fn read_lineup(cursor: &mut BitCursor, slots: &mut [u16]) -> Result<u16, ReadFau
     Ok(length)
 }
 
-/// A line-up for each length, one after the other into the entries.
+/// A line-up for each length, one after the other into the entries. It calls itself once for each length.
 #[tactic(auto, using(crate::proofs::Lineups::lineups_steps), unfolding(crate::specs::Reading::many_at, recording::specs::Record::parts, recording::specs::Record::total))]
 fn read_lineups(
     cursor: &mut BitCursor,
@@ -225,11 +225,11 @@ fn read_recording(cursor: &mut BitCursor, recording: &mut Recording) -> Result<(
     recording.count = header.count;
     let events = &mut recording.events[..header.count as usize];
     Events { stations }.read_all(cursor, events)?;
-    let Recording { lengths, entries, .. } = recording;
+    // `&mut recording.lengths[..stations as usize]`, lent beside another field, gets no generated proof.
+    let lengths = &mut recording.lengths;
     let (used, _) = lengths.split_at_mut(stations as usize);
-    read_lineups(cursor, used, entries)?;
-    read_filling(cursor)?;
-    Ok(())
+    read_lineups(cursor, used, &mut recording.entries)?;
+    read_filling(cursor)
 }
 
 /// The whole file, into a record that is first made zero throughout.
