@@ -1,6 +1,7 @@
 mod Fields
 mod Files
 mod Filling
+mod Lineups
 mod Many
 mod Slots
 mod Stands

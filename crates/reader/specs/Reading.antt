@@ -89,11 +89,6 @@ unfoldable pub filling_at : List ℕ → ℕ → ℕ → Result ℕ Told
 filling_at bs p zero = cond (nat_lt p (8 * length bs)) (Err (told 3 (AtBit p))) (Ok p)
 filling_at bs p (suc n) = cond (bit_at bs p == 0) (filling_at bs (p + 1) n) (Err (told 3 (AtBit p)))
 
--- the line-ups stand one after the other in the entries, their lengths in the lengths, and the other places hold zero
-pub record Placed (ls : List (List ℕ)) (lengths entries : List ℕ) : Type 0 where
-  pub lengths_are : lengths ≡ padded max_stations 0 (map (λ l. length l) ls)
-  pub entries_are : entries ≡ padded all_entries 0 (flat_map (λ l. l) ls)
-
 -- the record of a header, events and line-ups
 abbrev pub record_of : Header → List Event → List (List ℕ) → Recording
 record_of h es ls = record {

@@ -7,12 +7,12 @@
 
 pub mod fault;
 
-ghost use Rattle.std.specs.Prelude.{◌≡◌, ℕ, ◌*◌, ◌^◌, ◌<◌, ◌≤◌, List, length, take, drop, replicate, IfOk, OnOk, MatchResult};
+ghost use Rattle.std.specs.Prelude.{◌≡◌, ℕ, ◌+◌, ◌*◌, ◌^◌, ◌<◌, ◌≤◌, List, length, take, drop, IfOk, MatchResult};
 ghost use Rattle.bits.specs.Widths.{bits_of};
 ghost use Rattle.reader.specs.Faults.{read_told};
 ghost use Rattle.recording.specs.Layout.{gap};
-ghost use Rattle.reader.specs.Reading.{Faulty, Gives, Holds, Moved, Placed, Reading, decode, entry_at, event_at, field_at, filling_at, header_at, item_bits, lineup_at, lineup_bits, many_at};
-ghost use Rattle.recording.specs.Record.{all_entries, all_zero, max_entries, max_events, max_kind, max_stations, number_of};
+ghost use Rattle.reader.specs.Reading.{Faulty, Gives, Holds, Moved, Reading, decode, entry_at, event_at, field_at, filling_at, header_at, item_bits, lineup_at, lineup_bits, many_at};
+ghost use Rattle.recording.specs.Record.{all_zero, max_entries, max_events, max_kind, max_stations, number_of, parts, total};
 
 use crate::fault::ReadFault;
 use bits::cursor::BitCursor;
@@ -24,8 +24,8 @@ use recording::layout::{
 };
 use recording::range::ranged;
 use recording::record::{
-    ALL_ENTRIES, Event, EventKind, MAX_CALL, MAX_CODE, MAX_ENTRIES, MAX_EVENTS, MAX_ORDER,
-    MAX_STATIONS, Recording,
+    Event, EventKind, MAX_CALL, MAX_CODE, MAX_ENTRIES, MAX_EVENTS, MAX_ORDER, MAX_STATIONS,
+    Recording,
 };
 
 /// The fields before the events, but for the edition, which is 1.
@@ -169,29 +169,27 @@ fn read_lineup(cursor: &mut BitCursor, slots: &mut [u16]) -> Result<u16, ReadFau
     Ok(length)
 }
 
-/// A line-up for each station, one after the other into the entries; the lengths tell where each ends.
+/// A line-up for each length, one after the other into the entries. It calls itself once for each length.
+#[tactic(auto, using(crate::proofs::Lineups::lineups_steps), unfolding(crate::specs::Reading::many_at, recording::specs::Record::parts, recording::specs::Record::total))]
 fn read_lineups(
     cursor: &mut BitCursor,
-    stations: u16,
-    lengths: &mut [u16; MAX_STATIONS],
-    entries: &mut [u16; ALL_ENTRIES],
+    lengths: &mut [u16],
+    entries: &mut [u16],
 ) -> Result<(), ReadFault>
-    requires few { stations ≤ max_stations }
-    requires lengths { lengths.old ≡ replicate max_stations 0 }
-    requires entries { entries.old ≡ replicate all_entries 0 }
-    requires countable { cursor.old.place < 2 ^ 56 }
-    ensures moved { Moved cursor.old cursor.new (max_stations * lineup_bits) }
-    ensures reading { ((ls : List (List ℕ))
-        × Gives (λ _. (ls, cursor.new.place)) result (many_at (lineup_at cursor.old.bytes.now) stations cursor.old.place)
-        × OnOk result (Placed ls lengths.new entries.new)) }
+    requires room { max_entries * length lengths.old ≤ length entries.old }
+    requires countable { cursor.old.place + lineup_bits * length lengths.old < 2 ^ 57 }
+    ensures moved { Moved cursor.old cursor.new (lineup_bits * length lengths.old) }
+    ensures reading { Gives (λ _. (parts lengths.new entries.new, cursor.new.place)) result
+        (many_at (lineup_at cursor.old.bytes.now) (length lengths.old) cursor.old.place) }
+    ensures few { IfOk result (λ _. total lengths.new ≤ max_entries * length lengths.old) }
+    ensures rest { IfOk result (λ _. drop (total lengths.new) entries.new ≡ drop (total lengths.new) entries.old) }
 {
-    // Not a `&mut` of the entries that each turn shortens: after such a loop the proof knows nothing of them.
-    let mut start = 0;
-    for length in &mut lengths[..stations as usize] {
-        *length = read_lineup(cursor, &mut entries[start..])?;
-        start += *length as usize;
-    }
-    Ok(())
+    let Some((length, others)) = lengths.split_first_mut() else {
+        return Ok(());
+    };
+    *length = read_lineup(cursor, entries)?;
+    let (_, rest) = entries.split_at_mut(*length as usize);
+    read_lineups(cursor, others, rest)
 }
 
 /// The filling bits, and no byte after them.
@@ -228,14 +226,11 @@ fn read_recording(cursor: &mut BitCursor, recording: &mut Recording) -> Result<(
     recording.count = header.count;
     let events = &mut recording.events[..header.count as usize];
     Events { stations }.read_all(cursor, events)?;
-    read_lineups(
-        cursor,
-        stations,
-        &mut recording.lengths,
-        &mut recording.entries,
-    )?;
-    read_filling(cursor)?;
-    Ok(())
+    // `&mut recording.lengths[..stations as usize]`, lent beside another field, gets no generated proof.
+    let lengths = &mut recording.lengths;
+    let (used, _) = lengths.split_at_mut(stations as usize);
+    read_lineups(cursor, used, &mut recording.entries)?;
+    read_filling(cursor)
 }
 
 /// The whole file, into a record that is first made zero throughout.
