@@ -25,14 +25,15 @@ fn read_input(input: &mut impl Read, buffer: &mut [u8]) -> io::Result<usize>
     ensures { IfOk result (λ n. n ≤ length buffer.old) }
 {
     // The library's `io::copy`, `read_exact` and `bytes` try an interrupted read again, so none of them can stand here.
-    let mut filled = 0;
-    while filled < buffer.len() {
-        match input.read(&mut buffer[filled..])? {
+    let size = buffer.len();
+    let mut rest = buffer;
+    while !rest.is_empty() {
+        match input.read(rest)? {
             0 => break,
-            count => filled += count,
+            count => rest = &mut rest[count..],
         }
     }
-    Ok(filled)
+    Ok(size - rest.len())
 }
 
 /// Reads a file and judges its recording. Nothing judges by a bank here yet, so no station has a lane, and nothing is accepted.

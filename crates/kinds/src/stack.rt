@@ -8,7 +8,8 @@ use crate::orders::newest;
 pub type Stack = ArrayBank<Newest>;
 
 /// The kind of a stack's lanes.
-// Apart from `Oldest`, which differs in the end alone: a type for both would need a trait for the end, of as many lines.
+// Apart from `Oldest`, which differs in the end alone: one type for both would take the end as a `const` and a `match` on it in
+// each of the three members, where a name says it.
 #[derive(Clone, Copy, Debug, Default, PartialEq, Eq, Hash)]
 pub struct Newest;
 

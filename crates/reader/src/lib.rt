@@ -1,8 +1,9 @@
 //! The reader of recordings: a file's bytes into a record.
 //!
 //! The functions that read fields ask that the cursor's place is below a power of two that leaves room for all that they
-//! read, so that no sum of places can wrap, and ensure how far they move the cursor at the most (`moved`), and that their
-//! result is what the definition of that part of a file gives (`reading`). `read` starts at bit 0.
+//! read, so that no sum of places can wrap; no type has that bound, since the cursor is that of `bits` and reaches further. Most
+//! of them ensure how far they move the cursor at the most (`moved`), and all that their result is what the definition of that
+//! part of a file gives (`reading`): what a call did to its cursor is a relation, and no type can have it. `read` starts at bit 0.
 #![tactic(auto)]
 
 pub mod fault;
@@ -18,6 +19,7 @@ use crate::fault::ReadFault;
 use bits::cursor::BitCursor;
 use bits::width::Width;
 use recording::fault::FieldFault;
+use recording::items::{Entries, Events};
 use recording::layout::{
     CODE_WIDTH, COUNT_WIDTH, EDITION, EDITION_WIDTH, ENTRY_WIDTH, FILLING_WIDTH, KIND_WIDTH,
     LENGTH_WIDTH, ORDER_WIDTH, STATION_WIDTH, STATIONS_WIDTH,
@@ -31,7 +33,7 @@ use recording::record::{
 /// The fields before the events, but for the edition, which is 1.
 #[derive(Clone, Copy)]
 struct Header {
-    // A number, as the record has it.
+    // A number and no `LaneKind`, since it goes into the record as it is.
     code: u16,
     stations: u16,
     count: u16,
@@ -83,8 +85,8 @@ fn read_kind(cursor: &mut BitCursor) -> Result<EventKind, ReadFault>
     Ok(EventKind::try_from(number).map_err(|_| FieldFault::Range { bit })?)
 }
 
-/// Items of one kind, which a file holds one after the other.
-trait Items {
+/// How items of one kind are read, which a file holds one after the other.
+trait Readable {
     type Item: Copy;
 
     /// The item that stands in a file's bytes from a bit on.
@@ -113,13 +115,7 @@ trait Items {
     }
 }
 
-/// The events of a recording with so many stations.
-#[derive(Clone, Copy)]
-struct Events {
-    stations: u16,
-}
-
-impl Items for Events {
+impl Readable for Events {
     type Item = Event;
 
     ghost at = { λ s bytes. event_at bytes s.stations };
@@ -141,11 +137,7 @@ impl Items for Events {
     }
 }
 
-/// The entries of a line-up.
-#[derive(Clone, Copy)]
-struct Entries;
-
-impl Items for Entries {
+impl Readable for Entries {
     type Item = u16;
 
     ghost at = { λ _ bytes. entry_at bytes };
@@ -165,7 +157,7 @@ fn read_lineup(cursor: &mut BitCursor, slots: &mut [u16]) -> Result<u16, ReadFau
     ensures rest { IfOk result (λ n. (n ≤ max_entries) × (drop n slots.new ≡ drop n slots.old)) }
 {
     let length = field(cursor, LENGTH_WIDTH, 0, MAX_ENTRIES as u16)?;
-    Entries.read_all(cursor, &mut slots[..length as usize])?;
+    Entries.read_all(cursor, &mut slots[..usize::from(length)])?;
     Ok(length)
 }
 
@@ -188,7 +180,7 @@ fn read_lineups(
         return Ok(());
     };
     *length = read_lineup(cursor, entries)?;
-    let (_, rest) = entries.split_at_mut(*length as usize);
+    let (_, rest) = entries.split_at_mut(usize::from(*length));
     read_lineups(cursor, others, rest)
 }
 
@@ -224,11 +216,11 @@ fn read_recording(cursor: &mut BitCursor, recording: &mut Recording) -> Result<(
     recording.code = header.code;
     recording.stations = stations;
     recording.count = header.count;
-    let events = &mut recording.events[..header.count as usize];
+    let events = &mut recording.events[..usize::from(header.count)];
     Events { stations }.read_all(cursor, events)?;
-    // `&mut recording.lengths[..stations as usize]`, lent beside another field, gets no generated proof.
+    // `&mut recording.lengths[..usize::from(stations)]`, lent beside another field, gets no generated proof.
     let lengths = &mut recording.lengths;
-    let (used, _) = lengths.split_at_mut(stations as usize);
+    let (used, _) = lengths.split_at_mut(usize::from(stations));
     read_lineups(cursor, used, &mut recording.entries)?;
     read_filling(cursor)
 }

@@ -94,6 +94,10 @@ inside_lineups p (n ∷ ns) es h k =
 
 -- ---- places that are not in use
 
+zeros_inside : (p : ℕ) (vs : List ℕ) → AllByRecursion InRange (zero_tries p vs) → AllByRecursion (λ v. v ≡ 0) vs
+zeros_inside p [] h = tt
+zeros_inside p (v ∷ vs) h = (omega (arith, h.0.1), zeros_inside p vs h.1)
+
 inside_zeros : (p : ℕ) (vs : List ℕ) → AllByRecursion (λ v. v ≡ 0) vs → AllByRecursion InRange (zero_tries p vs)
 inside_zeros p [] h = tt
 inside_zeros p (v ∷ vs) h = ((omega arith, omega (arith, h.0)), inside_zeros p vs h.1)
@@ -201,7 +205,18 @@ module _ (r : Recording) where
         rest_entries = padded_back all_entries 0 r.entries (total (used_lengths r)) (most_entries r u) lc z.entries;
       }
 
-  -- so the numbers in the places not in use are not all zero
+  -- what passes its ranges is within the limits
+  pub used_limits : length r.events ≡ max_events → length r.lengths ≡ max_stations → length r.entries ≡ all_entries
+      → FieldsOk r → try_all (record_tries r) ≡ Ok tt → Limits r
+  unfolding record_tries
+  used_limits le ln lc u h =
+      let k = all_split InRange (used_tries r) _ (all_inside _ h) in
+      let z = zeros_inside (span (record_fields r)) (unused r) k.1 in
+      let m = all_split (λ v. v ≡ 0) (flat_map event_numbers (drop r.count r.events)) _ z in
+      let n = all_split (λ v. v ≡ 0) (drop r.stations r.lengths) _ m.1 in
+      idle_limits le ln lc u (record { events = same_events _ m.0; lengths = same_zeros _ n.0; entries = same_zeros _ n.1 })
+
+  -- where not all places not in use are zero, their numbers are not
   not_idle : (Idle r → ⊥) → AllByRecursion (λ v. v ≡ 0) (unused r) → ⊥
   not_idle h z =
       let m = all_split (λ v. v ≡ 0) (flat_map event_numbers (drop r.count r.events)) _ z in

@@ -33,7 +33,7 @@ pub ranged_told : (p lo hi v : ℕ) (t : Told) → ranged p lo hi v ≡ Err t �
 unfolding ranged
 ranged_told p lo hi v t h = grind (arith, nat_tests)
 
--- what the range check gives
+-- where the range check refuses
 pub ranged_out : (p lo hi v : ℕ) (t : Told) → (t ≡ told 2 (AtBit p)) × ((v < lo) ⊎ (hi < v)) → ranged p lo hi v ≡ Err t
 unfolding ranged
 ranged_out p lo hi v t h = let e = h.0 in let k = h.1 in grind (arith, nat_tests)

@@ -3,7 +3,8 @@
 //! What a record holds is tried in the sequence of its file, and a fault is told at the bit where the field would stand. So
 //! the functions that try fields are told the bit at which their part of the file begins, and give the bit after that part.
 //! They ask that the bit is below a power of two, so that no sum can wrap; a type with that bound would have it shown at each
-//! sum all the same.
+//! sum all the same. What a check gives (`Checks`) is a relation to what it was given, which no type can have. A range is given by
+//! its two ends, as `ranged` takes them: the library's `RangeInclusive` hides its ends from clauses.
 ghost use Rattle.std.specs.Prelude.{◌≡◌, ℕ, ◌+◌, ◌*◌, ◌^◌, ◌<◌, ◌≤◌, List, length, take, drop, Ok, Err, MatchResult, IsTrue, All, true, ◌↔◌};
 ghost use Rattle.recording.specs.Faults.{field_told};
 ghost use Rattle.recording.specs.Layout.{Field, entry_fields, event_fields, header_fields, lineup_fields, max_bits, record_fields, span};
@@ -12,6 +13,7 @@ ghost use Rattle.recording.specs.Record.{Limits, all_entries, max_entries, max_e
 ghost use Rattle.std.specs.List.{flat_map};
 
 use crate::fault::FieldFault;
+use crate::items::{Entries, Events};
 use crate::layout::{
     CODE_WIDTH, COUNT_WIDTH, EDITION_WIDTH, ENTRY_WIDTH, KIND_WIDTH, LENGTH_WIDTH, ORDER_WIDTH,
     STATION_WIDTH, STATIONS_WIDTH,
@@ -23,6 +25,7 @@ use crate::record::{
 };
 
 /// What is still to be tried: the bit of the file at which it begins, and the entries that are left.
+// Handed in as its two fields, since clauses read a reference more plainly as a parameter than within one.
 #[derive(Clone, Copy)]
 struct Rest<'a> {
     bit: usize,
@@ -44,8 +47,8 @@ fn check_header(recording: &Recording) -> Result<usize, FieldFault>
     Ok(bit + COUNT_WIDTH.bits())
 }
 
-/// Items of one kind, which a file holds one after the other.
-trait Items {
+/// How items of one kind are tried, which a file holds one after the other.
+trait Checkable {
     type Item;
 
     /// What is tried of an item whose fields stand from a bit on.
@@ -77,13 +80,7 @@ trait Items {
     }
 }
 
-/// The events of a recording with so many stations.
-#[derive(Clone, Copy)]
-struct Events {
-    stations: u16,
-}
-
-impl Items for Events {
+impl Checkable for Events {
     type Item = Event;
 
     ghost tries = { λ events. event_tries events.stations };
@@ -107,11 +104,7 @@ impl Items for Events {
     }
 }
 
-/// The entries of a line-up.
-#[derive(Clone, Copy)]
-struct Entries;
-
-impl Items for Entries {
+impl Checkable for Entries {
     type Item = u16;
 
     ghost tries = { λ _. entry_tries };
@@ -138,7 +131,7 @@ fn check_lineup(count: u16, entries: &[u16], bit: usize) -> Result<Rest<'_>, Fie
         × (count ≤ max_entries) × (rest.bit ≤ bit + (10 + 9 * max_entries))) }
 {
     ranged(bit, 0, MAX_ENTRIES as u16, count)?;
-    let (lineup, entries) = entries.split_at(count as usize);
+    let (lineup, entries) = entries.split_at(usize::from(count));
     let bit = Entries.check_all(lineup, bit + LENGTH_WIDTH.bits())?;
     Ok(Rest { bit, entries })
 }
@@ -183,9 +176,9 @@ fn check_used(recording: &Recording) -> Result<Rest<'_>, FieldFault>
 {
     let bit = check_header(recording)?;
     let stations = recording.stations;
-    let events = &recording.events[..recording.count as usize];
+    let events = &recording.events[..usize::from(recording.count)];
     let bit = Events { stations }.check_all(events, bit)?;
-    let lengths = &recording.lengths[..stations as usize];
+    let lengths = &recording.lengths[..usize::from(stations)];
     check_lineups(lengths, &recording.entries, bit)
 }
 
@@ -200,8 +193,8 @@ fn check_unused(recording: &Recording, rest: Rest) -> Result<(), FieldFault>
         (λ e. Outside recording.now (field_told e)) }
 {
     let Rest { bit, entries } = rest;
-    let events = &recording.events[recording.count as usize..];
-    let lengths = &recording.lengths[recording.stations as usize..];
+    let events = &recording.events[usize::from(recording.count)..];
+    let lengths = &recording.lengths[usize::from(recording.stations)..];
     if all_are(events, &Event::ZERO) && all_are(lengths, &0) && all_are(entries, &0) {
         Ok(())
     } else {

@@ -13,7 +13,7 @@ pub enum LaneKind {
     Pool,
 }
 
-/// A code that names no kind of lane: any other rule.
+/// A code that names none of these: 0, for any other rule, or one above 3, which no recording within the limits has.
 #[derive(Clone, Copy, Debug, PartialEq, Eq, Hash)]
 pub struct OtherLane;
 

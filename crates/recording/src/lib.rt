@@ -3,6 +3,7 @@
 
 pub mod check;
 pub mod fault;
+pub mod items;
 pub mod lane;
 pub mod layout;
 pub mod range;

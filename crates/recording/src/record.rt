@@ -98,7 +98,7 @@ pub struct Event {
 /// a linearization of that station's part of the run: its posts, the draws that gave its orders, and the empty draws.
 /// Places that are not used hold zero.
 // Fixed tables with their counts beside: there is no heap, and what the places not in use hold is part of a record.
-#[derive(Drop)]
+#[derive(Debug, PartialEq, Eq, Hash, Drop)]
 pub struct Recording {
     /// The kind of lane (the station's own part of the store, which holds its orders until they are drawn) that the run
     /// was made over: 1 queue, 2 stack, 3 pool, 0 any other rule.

@@ -26,6 +26,7 @@ pub enum JudgeFault {
     StillOpen { event: usize },
     /// A station has no lane; the first such is told, at entry 0.
     NoLane { station: usize },
+    // Station and entry stand apart in the five cases to come: as one struct they would be taken apart again for each place.
     /// An entry that is not a call of this station's induced history.
     Foreign { station: usize, entry: usize },
     /// An entry that names a call named earlier in this line-up.
@@ -50,6 +51,7 @@ impl From<ReadFault> for JudgeFault {
 }
 
 /// A number at an event.
+// The number is a parameter, here and below: an enum of numbers would only repeat the cases of the faults.
 fn at_event(number: usize, event: usize) -> Told
     ensures { result ≡ tells number (AtEvent event) }
 {
@@ -88,6 +90,7 @@ impl From<JudgeFault> for Told {
 }
 
 /// A fault of a report.
+// `WriteFault` has this case too, among others: a struct for the one case would need a conversion where a case is one line.
 #[derive(Clone, Copy, Debug, PartialEq, Eq, Hash)]
 pub enum ReportFault {
     /// The buffer is too short for the line, whose size is told.

@@ -15,6 +15,7 @@ use recording::lane::{LaneKind, OtherLane};
 pub const LONGEST: usize = ROOM;
 
 /// The word for the kind of lane that a code names.
+// It takes the code, since there is a word for every code.
 fn kind_word(code: u16) -> &'static [u8]
     ensures { result.now ≡ word_of_kind code }
 {
@@ -27,6 +28,7 @@ fn kind_word(code: u16) -> &'static [u8]
 }
 
 /// The line of a verdict that accepts.
+// The words are fixed byte strings, here and below, and not `write!`: the project fixes that form.
 fn acceptance(accepted: Accepted) -> Line
     ensures { result ≡ accepted_line accepted }
 {

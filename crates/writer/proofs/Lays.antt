@@ -1,7 +1,7 @@
 -- Fields written one after the other.
 use Rattle.std.proofs.Common.{◌≡◌, ℕ, suc, ◌+◌, ◌%◌, ◌<◌, ◌≤◌, List, [], ◌∷◌, ◌++◌, length, get_or, take, drop, refl, ◌∙◌, inl, inr, add-zero, sym, arith}
 use Rattle.std.specs.List.{flat_map}
-use Rattle.std.proofs.lemmas.List.{drop_more, drop_all, length-drop}
+use Rattle.std.proofs.lemmas.List.{drop_more, drop_all, flat_map_more, length-drop, take_more}
 use Rattle.recording.specs.Layout.{Field, Laid, bits, gap, lineup_fields, span}
 use Rattle.recording.specs.Record.{parts, total}
 use Rattle.recording.proofs.Layouts.{laid_append, laid_same, span_append}
@@ -30,6 +30,11 @@ wrote_append {a} {b} {c} {fs} {gs} f g =
       ];
       long = g.long ∙ f.long;
     }
+
+-- the first items, and then one more
+pub wrote_item : {A : Type 0} (fields : A → List Field) (xs : List A) (i : ℕ) (d : A) → i < length xs → {a b c : BitWriter}
+    → LaidOver a b (flat_map fields (take i xs)) → LaidOver b c (fields (get_or xs i d)) → LaidOver a c (flat_map fields (take (i + 1) xs))
+wrote_item fields xs i d h f g = rw (take_more xs i d h, ← flat_map_more fields [] (take i xs) (get_or xs i d)) (wrote_append f g)
 
 -- a field, and then other fields
 pub wrote_more : {a b c : BitWriter} {f : Field} {fs : List Field} → LaidOver a b (f ∷ []) → LaidOver b c fs → LaidOver a c (f ∷ fs)

@@ -1,4 +1,5 @@
 //! What a file holds, laid out as fields that stand one after the other.
+//! Counts are widened by `as`: over `usize::from` the searches of `lay_lineups` and `lay_recording` were left open.
 #![tactic(auto, using(crate::proofs::Lays::wrote_more), unfolding(recording::specs::Layout::event_fields, recording::specs::Layout::lineup_fields, recording::specs::Layout::span))]
 
 ghost use Rattle.std.specs.Prelude.{◌≡◌, ◌≤◌, List, length};

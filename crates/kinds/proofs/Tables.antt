@@ -1,0 +1,45 @@
+-- Facts about the lanes of a table.
+use Rattle.std.specs.Prelude.{◌≡◌, ℕ, ◌+◌, ◌<◌, ◌≤◌, List, [], ◌∷◌, ◌++◌, length, take, replicate, slice_index_or, slice_set, All}
+use Rattle.std.proofs.Common.{sym, refl, ap, ◌∙◌, arith}
+use Rattle.std.proofs.lemmas.List.{get_or_default, length-take-le, replicate_more, take-append-le, take_more_set}
+use Rattle.arrayvec.specs.ArrayVec.{array_vec_len}
+use Rattle.bank.specs.Model.{lane_of, max_depth}
+use Rattle.bank.specs.Rules.{every_held}
+use Rattle.kinds.specs.declared.table.Table.{Table}
+
+pub length_used : {A : Type 0} (n : ℕ) (ls : List A) → n ≤ length ls → length (take n ls) ≡ n
+length_used n ls h = length-take-le n ls h
+
+pub length_held : (t : Table) → length t.lanes.items ≡ array_vec_len t.lanes
+length_held t = refl
+
+pub orders_short : (t : Table) → All (λ xs. length xs ≤ max_depth) t.lanes.items
+orders_short t = (t.sound every_held).short
+
+-- what lane i holds; d stands for it past the end
+pub held_at : (t : Table) (i : ℕ) (d : List ℕ) → i < length t.lanes.items → lane_of t.lanes.items i ≡ slice_index_or t.lanes.items i d
+held_at t i d h = get_or_default t.lanes.items i [] d h
+
+-- a change of one lane changes what that lane holds, and no more
+pub held_edit : (f : List ℕ → List ℕ) (t : Table) (i : ℕ) (d new : List ℕ) → i < length t.lanes.items → new ≡ f (slice_index_or t.lanes.items i d)
+    → slice_set t.lanes.items i new ≡ slice_set t.lanes.items i (f (lane_of t.lanes.items i))
+held_edit f t i d new h e = ap (slice_set t.lanes.items i) (e ∙ ap f (sym (held_at t i d h)))
+
+-- one lane more is emptied
+pub emptied_more : (ls : List (List ℕ)) (i : ℕ) (new : List ℕ) → i < length ls → new ≡ [] → take i ls ≡ replicate i [] → take (i + 1) (slice_set ls i new) ≡ replicate (i + 1) []
+emptied_more ls i new h e so =
+    take_more_set ls i new h
+    ∙ ap (λ xs. xs ++ new ∷ []) so
+    ∙ ap (λ x. replicate i [] ++ x ∷ []) e
+    ∙ replicate_more i []
+
+-- a front that is emptied, with whatever lanes after it
+pub emptied_front : (n : ℕ) (front rest : List (List ℕ)) → length front ≡ n → take n front ≡ replicate n [] → take n (front ++ rest) ≡ replicate n []
+emptied_front n front rest long so = take-append-le n front rest (omega arith) ∙ so
+
+pub all_always : {X : Type 0} (P : X → Type 0) → ((x : X) → P x) → (xs : List X) → All P xs
+all_always P f xs = λ k d h. f _
+
+-- what holds of every list of orders holds of what a table holds
+pub held_all : (P : List ℕ → Type 0) → ((xs : List ℕ) → P xs) → (t : Table) → All P t.lanes.items
+held_all P f t = all_always P f t.lanes.items
