@@ -4,7 +4,8 @@
 //! the functions that try fields are told the bit at which their part of the file begins, and give the bit after that part.
 //! They ask that the bit is below a power of two, so that no sum can wrap; a type with that bound would have it shown at each
 //! sum all the same. What a check gives (`Checks`) is a relation to what it was given, which no type can have. A range is given by
-//! its two ends, as `ranged` takes them: the library's `RangeInclusive` hides its ends from clauses.
+//! its two ends, as `ranged` takes them: a constant for each field, with its width and its range, would be taken apart again
+//! where the range depends on the record.
 ghost use Rattle.std.specs.Prelude.{◌≡◌, ℕ, ◌+◌, ◌*◌, ◌^◌, ◌<◌, ◌≤◌, List, length, take, drop, Ok, Err, MatchResult, IsTrue, All, true, ◌↔◌};
 ghost use Rattle.recording.specs.Faults.{field_told};
 ghost use Rattle.recording.specs.Layout.{Field, entry_fields, event_fields, header_fields, lineup_fields, max_bits, record_fields, span};
