@@ -1,4 +1,7 @@
 //! A window of three bytes: a field of at most 12 bits always lies within one.
+//!
+//! Place and width come apart, as `set` takes them and as a cursor has its place already; a struct for both would be made at each
+//! call.
 ghost use Rattle.std.specs.Prelude.{◌≡◌, ◌+◌, ◌-◌, ◌*◌, ◌%◌, ◌^◌, ◌<◌, ◌≤◌, MatchOption, slice_index};
 ghost use Rattle.bits.specs.Bits.{reach, spelled};
 ghost use Rattle.bits.specs.Widths.{bits_of};

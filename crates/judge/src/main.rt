@@ -47,6 +47,7 @@ fn judge(bytes: &[u8], recording: &mut Recording) -> Verdict
 }
 
 fn main(rt: HostRuntime) -> io::Result<()> {
+    // Buffers of a fixed size, with what is in use of them beside: the program allocates nothing.
     let mut input = [0; MAX_INPUT];
     let size = read_input(&mut rt.stdin(), &mut input)?;
     let mut recording = Recording::zero();

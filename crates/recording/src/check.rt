@@ -138,6 +138,7 @@ fn check_lineup(count: u16, entries: &[u16], bit: usize) -> Result<Rest<'_>, Fie
 }
 
 /// Tries line-ups of these lengths, one after the other.
+// Lengths and entries come apart, as a record has them: an iterator over both would have to say that the entries suffice.
 #[tactic(auto, using(crate::proofs::Tries::lineup_steps))]
 fn check_lineups<'a>(
     lengths: &[u16],
