@@ -31,8 +31,8 @@ use recording::record::{
 };
 
 /// The fields before the events, but for the edition, which is 1.
-#[derive(Clone, Copy)]
 // No ghost fields for its ranges: the definition of a header gives one for any numbers.
+#[derive(Clone, Copy)]
 struct Header {
     // A number and no `LaneKind`, since it goes into the record as it is.
     code: u16,
