@@ -19,7 +19,7 @@ pub trait Bank {
     fn depth(&self) -> usize
         ensures { result ≡ (model self.now).depth };
 
-    // `put` and `out` answer a `bool`, and no `Result`: the customer fixed the calls of a bank.
+    // `put`, `may` and `out` answer a `bool`, and no `Result`: the project fixes the calls of a bank.
 
     /// Puts an order last into a lane: true exactly when the lane exists, the order is at most `MAX_ORDER` and not held
     /// there, and the lane holds fewer than the depth. After false all is as before.

@@ -1,7 +1,7 @@
 //! A window of three bytes: a field of at most 12 bits always lies within one.
 //!
-//! Place and width come apart, as `set` takes them and as a cursor has its place already; a struct for both would be made at each
-//! call.
+//! Place and width are two parameters, as `set` takes them and as a cursor has its place already; a struct for both would be made
+//! at each call. That an index is below a power of two is asked here and in `paste`: no slice is so long, but no type says so.
 ghost use Rattle.std.specs.Prelude.{◌≡◌, ◌+◌, ◌-◌, ◌*◌, ◌%◌, ◌^◌, ◌<◌, ◌≤◌, MatchOption, slice_index};
 ghost use Rattle.bits.specs.Bits.{reach, spelled};
 ghost use Rattle.bits.specs.Widths.{bits_of};

@@ -1,9 +1,10 @@
 -- Facts about the lanes of a table.
-use Rattle.std.specs.Prelude.{◌≡◌, ℕ, ◌+◌, ◌<◌, ◌≤◌, List, [], ◌∷◌, ◌++◌, length, take, replicate, slice_index_or, slice_set, All}
+use Rattle.std.specs.Prelude.{◌≡◌, ℕ, ◌+◌, ◌<◌, ◌≤◌, true, List, [], ◌∷◌, ◌++◌, length, take, replicate, slice_index_or, slice_set, All}
 use Rattle.std.proofs.Common.{sym, refl, ap, ◌∙◌, arith}
 use Rattle.std.proofs.lemmas.List.{get_or_default, length-take-le, replicate_more, take-append-le, take_more_set}
 use Rattle.arrayvec.specs.ArrayVec.{array_vec_len}
 use Rattle.bank.specs.Model.{lane_of, max_depth}
+use Rattle.bank.specs.Orders.{proper}
 use Rattle.bank.specs.Rules.{every_held}
 use Rattle.kinds.specs.declared.table.Table.{Table}
 
@@ -40,6 +41,6 @@ emptied_front n front rest long so = take-append-le n front rest (omega arith) �
 pub all_always : {X : Type 0} (P : X → Type 0) → ((x : X) → P x) → (xs : List X) → All P xs
 all_always P f xs = λ k d h. f _
 
--- what holds of every list of orders holds of what a table holds
-pub held_all : (P : List ℕ → Type 0) → ((xs : List ℕ) → P xs) → (t : Table) → All P t.lanes.items
-held_all P f t = all_always P f t.lanes.items
+-- what holds of every list of orders that a lane may hold holds of what a table holds
+pub held_all : (P : List ℕ → Type 0) → ((xs : List ℕ) → proper xs ≡ true → length xs ≤ max_depth → P xs) → (t : Table) → All P t.lanes.items
+held_all P f t = λ k d h. f _ ((t.sound every_held).proper k d h) ((t.sound every_held).short k d h)

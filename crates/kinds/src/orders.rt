@@ -20,7 +20,7 @@ pub(crate) fn oldest(held: &[u16]) -> Option<u16>
 }
 
 /// The newest order.
-// Apart from `oldest`, as `first` and `last` are.
+// Apart from `oldest`: one function for both would take the end and a `match` on it.
 pub(crate) fn newest(held: &[u16]) -> Option<u16>
     ensures value { result ≡ newest_of held.now }
     ensures picks { Picks only_newest held.now result }

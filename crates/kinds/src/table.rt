@@ -60,6 +60,7 @@ impl Table {
     }
 
     /// Puts an order last into a lane, if the lane exists, has room and does not hold it.
+    // A `bool`, as the call of a bank answers.
     pub(crate) fn put(&mut self, lane: usize, order: u16) -> bool
         ensures answer { result ≡ takes self.old.lanes.items max_depth lane order }
         ensures after { self.new.lanes.items

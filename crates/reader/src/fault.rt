@@ -17,7 +17,7 @@ pub enum ReadFault {
     Filling { bit: usize },
 }
 
-// By hand, like the next: the derive's conversion promises nothing.
+// By hand, like the next: the conversion of `thiserror`'s `#[from]` promises nothing.
 impl From<BitFault> for ReadFault {
     ghost from_gives = { λ e r. r ≡ Bit e };
 

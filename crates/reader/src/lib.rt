@@ -31,7 +31,7 @@ use recording::record::{
 };
 
 /// The fields before the events, but for the edition, which is 1.
-// No ghost fields for its ranges: the definition of a header gives one for any numbers.
+// No ghost fields for its ranges: `header_of` of the specification makes a header of any three numbers.
 #[derive(Clone, Copy)]
 struct Header {
     // A number and no `LaneKind`, since it goes into the record as it is.
@@ -41,6 +41,7 @@ struct Header {
 }
 
 /// The next field, a number from `low` to `high`.
+// The two ends are parameters, as `ranged` takes them.
 #[tactic(auto, unfolding(crate::specs::Reading::field_at, recording::specs::Ranges::ranged))]
 fn field(cursor: &mut BitCursor, width: Width, low: u16, high: u16) -> Result<u16, ReadFault>
     requires { cursor.old.place < 2 ^ 60 }
@@ -74,6 +75,7 @@ fn read_header(cursor: &mut BitCursor) -> Result<Header, ReadFault>
 }
 
 /// The next field, the kind of an event.
+// Apart from `field`, since what is tried of the number is whether a kind has it.
 #[tactic(auto, unfolding(crate::specs::Reading::field_at, recording::specs::Ranges::ranged))]
 fn read_kind(cursor: &mut BitCursor) -> Result<EventKind, ReadFault>
     requires { cursor.old.place < 2 ^ 60 }
@@ -163,6 +165,7 @@ fn read_lineup(cursor: &mut BitCursor, slots: &mut [u16]) -> Result<u16, ReadFau
 }
 
 /// A line-up for each length, one after the other into the entries. It calls itself once for each length.
+// Lengths and entries are two parameters, as a record has them.
 #[tactic(auto, using(crate::proofs::Lineups::lineups_steps), unfolding(crate::specs::Reading::many_at, recording::specs::Record::parts, recording::specs::Record::total))]
 fn read_lineups(
     cursor: &mut BitCursor,

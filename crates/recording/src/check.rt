@@ -3,7 +3,7 @@
 //! What a record holds is tried in the sequence of its file, and a fault is told at the bit where the field would stand. So
 //! the functions that try fields are told the bit at which their part of the file begins, and give the bit after that part.
 //! They ask that the bit is below a power of two, so that no sum can wrap; a type with that bound would have it shown at each
-//! sum all the same. What a check gives (`Checks`) is a relation to what it was given, which no type can have. A range is given by
+//! sum all the same, and so would one for the number of stations or of events. What a check gives (`Checks`) is a relation to what it was given, which no type can have. A range is given by
 //! its two ends, as `ranged` takes them: a constant for each field, with its width and its range, would be taken apart again
 //! where the range depends on the record.
 ghost use Rattle.std.specs.Prelude.{◌≡◌, ℕ, ◌+◌, ◌*◌, ◌^◌, ◌<◌, ◌≤◌, List, length, take, drop, Ok, Err, MatchResult, IsTrue, All, true, ◌↔◌};
@@ -26,7 +26,7 @@ use crate::record::{
 };
 
 /// What is still to be tried: the bit of the file at which it begins, and the entries that are left.
-// Handed in as its two fields, since clauses read a reference more plainly as a parameter than within one.
+// `check_lineup` takes the two fields apart, since `check_lineups` begins with a bit and an array.
 #[derive(Clone, Copy)]
 struct Rest<'a> {
     bit: usize,
@@ -138,7 +138,7 @@ fn check_lineup(count: u16, entries: &[u16], bit: usize) -> Result<Rest<'_>, Fie
 }
 
 /// Tries line-ups of these lengths, one after the other.
-// Lengths and entries come apart, as a record has them: an iterator over both would have to say that the entries suffice.
+// Lengths and entries are two parameters, as a record has them: an iterator over both would have to say that the entries suffice.
 #[tactic(auto, using(crate::proofs::Tries::lineup_steps))]
 fn check_lineups<'a>(
     lengths: &[u16],

@@ -1,4 +1,4 @@
-//! Recordings of a store's run: the record, and its limits.
+//! Recordings of a store's run: the record and its kinds, the layout of its file, its limits and their check.
 #![tactic(auto)]
 
 pub mod check;

@@ -61,6 +61,7 @@ impl From<EventKind> for u16 {
 }
 
 /// A number that stands for no kind of event.
+// Apart from `OtherLane`: each says in a signature what was not found.
 #[derive(Clone, Copy, Debug, PartialEq, Eq, Hash)]
 pub struct UnknownKind;
 

@@ -26,7 +26,7 @@ pub enum JudgeFault {
     StillOpen { event: usize },
     /// A station has no lane; the first such is told, at entry 0.
     NoLane { station: usize },
-    // Station and entry stand apart in the five cases to come: as one struct they would be taken apart again for each place.
+    // Station and entry are two fields in the next five cases: as one struct they would be taken apart again for each place.
     /// An entry that is not a call of this station's induced history.
     Foreign { station: usize, entry: usize },
     /// An entry that names a call named earlier in this line-up.
@@ -41,7 +41,7 @@ pub enum JudgeFault {
     Missing { station: usize, length: usize },
 }
 
-// By hand, as the derive's conversion promises nothing.
+// By hand, as the conversion of `thiserror`'s `#[from]` promises nothing.
 impl From<ReadFault> for JudgeFault {
     ghost from_gives = { λ e r. r ≡ Read e };
 

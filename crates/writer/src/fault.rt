@@ -14,7 +14,7 @@ pub enum WriteFault {
     Short { needed: usize },
 }
 
-// By hand, as the derive's conversion promises nothing.
+// By hand, as the conversion of `thiserror`'s `#[from]` promises nothing.
 impl From<FieldFault> for WriteFault {
     ghost from_gives = { λ e r. r ≡ Field e };
 

@@ -80,7 +80,7 @@ fn lay_lineup(lineup: &[u16], into: &mut BitWriter)
 }
 
 /// Lays out line-ups of these lengths, which stand one after the other in the entries.
-// Lengths and entries come apart, as a record has them: an iterator over both would have to say that the entries suffice.
+// Lengths and entries are two parameters, as a record has them: an iterator over both would have to say that the entries suffice.
 fn lay_lineups(lengths: &[u16], entries: &[u16], into: &mut BitWriter)
     requires ready { Ready into.old (flat_map lineup_fields (parts lengths.now entries.now)) }
     requires there { total lengths.now ≤ length entries.now }
@@ -95,7 +95,8 @@ fn lay_lineups(lengths: &[u16], entries: &[u16], into: &mut BitWriter)
 }
 
 /// Lays out a recording: what stands before the events, the events, and the line-ups.
-// It asks for the limits, as the next does: a type that has them would be made of what `check` answers, which is a size.
+// The limits are asked for, here, in `lay_file` and in `lay_front`, and there the size: `check` answers a number only, so a type
+// that has the limits would be made in `write` and opened again at once.
 fn lay_recording(recording: &Recording, into: &mut BitWriter)
     requires limits { Limits recording.now }
     requires ready { Ready into.old (record_fields recording.now) }
