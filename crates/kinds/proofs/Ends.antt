@@ -4,10 +4,6 @@ use Rattle.bank.specs.Orders.{holds}
 use Rattle.bank.specs.Rules.{is_that, newest_of, oldest_of, only_newest, only_oldest}
 use Rattle.kinds.specs.Picks.{Picks}
 
-pub oldest_get : (xs : List ℕ) → slice_get xs 0 ≡ oldest_of xs
-oldest_get [] = refl
-oldest_get (x ∷ xs) = refl
-
 newest_at : (x : ℕ) (xs : List ℕ) → slice_get (x ∷ xs) (length xs) ≡ newest_of (x ∷ xs)
 newest_at x [] = refl
 newest_at x (y ∷ ys) = newest_at y ys

@@ -1,3 +1,4 @@
+-- Taken out, the check leaves this goal open.
 use Rattle.reader.proofs.Files.{read_whole}
 use Rattle.reader.proofs.fill.Goals as goal
 

@@ -1,3 +1,4 @@
+-- Taken out, the check leaves this goal open.
 use Rattle.writer.proofs.Files.{front_written}
 use Rattle.writer.proofs.lay_front.Goals as goal
 

@@ -1,3 +1,4 @@
+-- Taken out, the check leaves this goal open.
 use Rattle.std.proofs.Common.{◌-◌, ◌%◌, ◌^◌, arith}
 use lib.Pow.{ones_lt}
 use Rattle.std.proofs.lemmas.Nat.{and_mask, mod_below, pow_pos, shl_whole}

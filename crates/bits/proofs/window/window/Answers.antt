@@ -1,3 +1,4 @@
+-- Taken out, the check leaves this goal open.
 use Rattle.std.proofs.Common.{sym, ◌∙◌}
 use Rattle.bits.proofs.Windows.{three_bytes, or_three}
 use Rattle.bits.proofs.window.window.Goals as goal

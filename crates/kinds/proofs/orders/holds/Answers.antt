@@ -1,3 +1,4 @@
+-- Taken out, the check leaves this goal open.
 use Rattle.std.proofs.Common.{◌∙◌}
 use Rattle.bank.proofs.Orders.{any_holds}
 use Rattle.kinds.proofs.orders.holds.Goals as goal

@@ -1,3 +1,4 @@
+-- Taken out, the check leaves this goal open.
 use Rattle.std.proofs.Common.{◌∙◌}
 use Rattle.kinds.proofs.Ends.{newest_get, picks_newest}
 use Rattle.kinds.proofs.orders.newest.Goals as goal

@@ -1,3 +1,4 @@
+-- Each taken out, the check leaves its goal open.
 use Rattle.std.proofs.Common.{◌≡◌, length, refl, rules}
 use Rattle.std.proofs.lemmas.Bool.{eqb-true}
 use Rattle.recording.specs.Record.{all_entries, max_events, max_stations, no_event}

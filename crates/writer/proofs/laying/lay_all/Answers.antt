@@ -1,3 +1,4 @@
+-- Each taken out, the check leaves its goal open.
 use Rattle.std.proofs.Common.{rules}
 use Rattle.writer.proofs.Lays.{item_ready, items_all, items_more}
 use Rattle.writer.proofs.laying.lay_all.Goals as goal

@@ -1,3 +1,4 @@
+-- Each taken out, the check leaves its goal open.
 use Rattle.std.proofs.Common.{rules}
 use Rattle.writer.proofs.Lays.{lineup_ready, lineup_there, lineups_all, lineups_more}
 use Rattle.writer.proofs.laying.lay_lineups.Goals as goal

@@ -1,3 +1,4 @@
+-- Each taken out, the check leaves its goal open.
 use Rattle.std.proofs.Common.{rules}
 use Rattle.recording.specs.Layout.{record_fields}
 use Rattle.recording.proofs.Lineups.{full_entries}

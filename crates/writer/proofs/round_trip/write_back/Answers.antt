@@ -1,3 +1,4 @@
+-- Taken out, the check leaves this goal open.
 use Rattle.std.proofs.Common.{sym, ◌∙◌, inl, inr}
 use Rattle.std.proofs.lemmas.Result.{MatchResult-weaker}
 use Rattle.writer.proofs.Files.{file_size_lem}

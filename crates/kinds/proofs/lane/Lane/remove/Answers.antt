@@ -1,3 +1,4 @@
+-- Taken out, the check leaves this goal open.
 use Rattle.std.proofs.Common.{rules}
 use Rattle.arrayvec.proofs.ArrayVecLemmas.{filter-from_retain}
 use Rattle.kinds.proofs.lane.Lane.remove.Goals as goal

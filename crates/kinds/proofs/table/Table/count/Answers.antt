@@ -1,3 +1,4 @@
+-- Taken out, the check leaves this goal open.
 use Rattle.std.proofs.Common.{arith}
 use Rattle.bank.specs.Rules.{every_held}
 use Rattle.kinds.proofs.table.Table.count.Goals as goal

@@ -1,3 +1,4 @@
+-- Taken out, the check leaves this goal open.
 use Rattle.std.proofs.Common.{◌≡◌, arith}
 use Rattle.std.specs.Prelude.{length, slice_set}
 use Rattle.std.specs.List.{refill}
