@@ -17,18 +17,13 @@ ghost use Rattle.recording.specs.Record.{all_zero, max_entries, max_events, max_
 
 use crate::fault::ReadFault;
 use bits::cursor::BitCursor;
-use bits::width::Width;
 use recording::fault::FieldFault;
 use recording::items::{Entries, Events};
 use recording::layout::{
-    CODE_WIDTH, COUNT_WIDTH, EDITION, EDITION_WIDTH, ENTRY_WIDTH, FILLING_WIDTH, KIND_WIDTH,
-    LENGTH_WIDTH, ORDER_WIDTH, STATION_WIDTH, STATIONS_WIDTH,
+    CODE, COUNT, EDITION, ENTRY, FILLING, FieldKind, KIND, LENGTH, ORDER, STATION, STATIONS,
 };
 use recording::range::ranged;
-use recording::record::{
-    Event, EventKind, MAX_CALL, MAX_CODE, MAX_ENTRIES, MAX_EVENTS, MAX_ORDER, MAX_STATIONS,
-    Recording,
-};
+use recording::record::{Event, EventKind, Recording};
 
 /// The fields before the events, but for the edition, which is 1.
 // No ghost fields for its ranges: `header_of` of the specification makes a header of any three numbers.
@@ -40,19 +35,18 @@ struct Header {
     count: u16,
 }
 
-/// The next field, a number from `low` to `high`.
-// The two ends are parameters, as `ranged` takes them.
+/// The next field, a number of that kind.
 #[tactic(auto, unfolding(crate::specs::Reading::field_at, recording::specs::Ranges::ranged))]
-fn field(cursor: &mut BitCursor, width: Width, low: u16, high: u16) -> Result<u16, ReadFault>
+fn field(cursor: &mut BitCursor, kind: FieldKind) -> Result<u16, ReadFault>
     requires { cursor.old.place < 2 ^ 60 }
-    ensures moved { Moved cursor.old cursor.new (bits_of width) }
+    ensures moved { Moved cursor.old cursor.new (bits_of kind.width) }
     ensures reading { Gives (λ v. (v, cursor.new.place)) result
-        (field_at cursor.old.bytes.now cursor.old.place (bits_of width) low high) }
-    ensures range { IfOk result (λ v. (low ≤ v) × (v ≤ high)) }
+        (field_at cursor.old.bytes.now cursor.old.place (bits_of kind.width) kind.low kind.high) }
+    ensures range { IfOk result (λ v. (kind.low ≤ v) × (v ≤ kind.high)) }
 {
     let bit = cursor.place();
-    let taken = cursor.take(width)?;
-    Ok(ranged(bit, low, high, taken)?)
+    let taken = cursor.take(kind.width)?;
+    Ok(ranged(bit, kind.low, kind.high, taken)?)
 }
 
 /// The edition, the code, the stations and the event count.
@@ -63,10 +57,10 @@ fn read_header(cursor: &mut BitCursor) -> Result<Header, ReadFault>
     ensures reading { Gives (λ h. (h, cursor.new.place)) result (header_at cursor.old.bytes.now cursor.old.place) }
     ensures range { IfOk result (λ h. (h.stations ≤ max_stations) × (h.count ≤ max_events)) }
 {
-    field(cursor, EDITION_WIDTH, EDITION, EDITION)?;
-    let code = field(cursor, CODE_WIDTH, 0, MAX_CODE)?;
-    let stations = field(cursor, STATIONS_WIDTH, 1, MAX_STATIONS as u16)?;
-    let count = field(cursor, COUNT_WIDTH, 0, MAX_EVENTS as u16)?;
+    field(cursor, EDITION)?;
+    let code = field(cursor, CODE)?;
+    let stations = field(cursor, STATIONS)?;
+    let count = field(cursor, COUNT)?;
     Ok(Header {
         code,
         stations,
@@ -84,7 +78,7 @@ fn read_kind(cursor: &mut BitCursor) -> Result<EventKind, ReadFault>
         (field_at cursor.old.bytes.now cursor.old.place 3 0 max_kind) }
 {
     let bit = cursor.place();
-    let number = cursor.take(KIND_WIDTH)?;
+    let number = cursor.take(KIND.width)?;
     Ok(EventKind::try_from(number).map_err(|_| FieldFault::Range { bit })?)
 }
 
@@ -126,9 +120,13 @@ impl Readable for Events {
     #[tactic(auto, using(crate::proofs::Stands::kind_code), unfolding(crate::specs::Reading::event_at))]
     fn read_one(&self, cursor: &mut BitCursor) -> Result<Event, ReadFault> {
         let kind = read_kind(cursor)?;
-        let station = field(cursor, STATION_WIDTH, 0, self.stations.saturating_sub(1))?;
+        let stations = FieldKind {
+            high: self.stations.saturating_sub(1),
+            ..STATION
+        };
+        let station = field(cursor, stations)?;
         let order = if kind.carries_order() {
-            field(cursor, ORDER_WIDTH, 0, MAX_ORDER)?
+            field(cursor, ORDER)?
         } else {
             0
         };
@@ -146,7 +144,7 @@ impl Readable for Entries {
     ghost at = { λ _ bytes. entry_at bytes };
 
     fn read_one(&self, cursor: &mut BitCursor) -> Result<u16, ReadFault> {
-        field(cursor, ENTRY_WIDTH, 0, MAX_CALL)
+        field(cursor, ENTRY)
     }
 }
 
@@ -159,7 +157,7 @@ fn read_lineup(cursor: &mut BitCursor, slots: &mut [u16]) -> Result<u16, ReadFau
     ensures reading { Gives (λ n. (take n slots.new, cursor.new.place)) result (lineup_at cursor.old.bytes.now cursor.old.place) }
     ensures rest { IfOk result (λ n. (n ≤ max_entries) × (drop n slots.new ≡ drop n slots.old)) }
 {
-    let length = field(cursor, LENGTH_WIDTH, 0, MAX_ENTRIES as u16)?;
+    let length = field(cursor, LENGTH)?;
     Entries.read_all(cursor, &mut slots[..usize::from(length)])?;
     Ok(length)
 }
@@ -196,7 +194,7 @@ fn read_filling(cursor: &mut BitCursor) -> Result<(), ReadFault>
 {
     while cursor.place() % 8 != 0 {
         let bit = cursor.place();
-        if cursor.take(FILLING_WIDTH)? != 0 {
+        if cursor.take(FILLING.width)? != 0 {
             return Err(ReadFault::Filling { bit });
         }
     }

@@ -3,27 +3,23 @@
 //! What a record holds is tried in the sequence of its file, and a fault is told at the bit where the field would stand. So
 //! the functions that try fields are told the bit at which their part of the file begins, and give the bit after that part.
 //! They ask that the bit is below a power of two, so that no sum can wrap; a type with that bound would have it shown at each
-//! sum all the same, and so would one for the number of stations or of events. What a check gives (`Checks`) is a relation to what it was given, which no type can have. A range is given by
-//! its two ends, as `ranged` takes them: a constant for each field, with its width and its range, would be taken apart again
-//! where the range depends on the record.
-ghost use Rattle.std.specs.Prelude.{◌≡◌, ℕ, ◌+◌, ◌*◌, ◌^◌, ◌<◌, ◌≤◌, List, length, take, drop, Ok, Err, MatchResult, IsTrue, All, true, ◌↔◌};
+//! sum all the same, and so would one for the number of stations or of events. What a check gives (`Checks`) is a relation to
+//! what it was given, which no type can have.
+ghost use Rattle.std.specs.Prelude.{◌≡◌, ℕ, ◌+◌, ◌*◌, ◌^◌, ◌<◌, ◌≤◌, List, [], ◌∷◌, length, take, drop, Ok, Err, MatchResult, IsTrue, All, true, ◌↔◌};
+ghost use Rattle.bits.specs.Widths.{bits_of};
 ghost use Rattle.recording.specs.Faults.{field_told};
 ghost use Rattle.recording.specs.Layout.{Field, entry_fields, event_fields, header_fields, lineup_fields, max_bits, record_fields, span};
-ghost use Rattle.recording.specs.Ranges.{Checks, Outside, Tried, entry_tries, event_tries, header_tries, lineup_tries, lineups_tries, many_tries, try_all, used_tries};
+ghost use Rattle.recording.specs.Ranges.{Checks, Outside, Tried, between, entry_tries, event_tries, header_tries, lineup_tries, lineups_tries, many_tries, tried, try_all, used_tries};
 ghost use Rattle.recording.specs.Record.{Limits, all_entries, max_entries, max_events, max_stations, parts, total, used_lengths};
 ghost use Rattle.std.specs.List.{flat_map};
 
 use crate::fault::FieldFault;
 use crate::items::{Entries, Events};
 use crate::layout::{
-    CODE_WIDTH, COUNT_WIDTH, EDITION_WIDTH, ENTRY_WIDTH, KIND_WIDTH, LENGTH_WIDTH, ORDER_WIDTH,
-    STATION_WIDTH, STATIONS_WIDTH,
+    CODE, COUNT, EDITION, ENTRY, FieldKind, KIND, LENGTH, ORDER, STATION, STATIONS,
 };
 use crate::range::ranged;
-use crate::record::{
-    ALL_ENTRIES, Event, MAX_CALL, MAX_CODE, MAX_ENTRIES, MAX_EVENTS, MAX_ORDER, MAX_STATIONS,
-    Recording,
-};
+use crate::record::{ALL_ENTRIES, Event, Recording};
 
 /// What is still to be tried: the bit of the file at which it begins, and the entries that are left.
 // `check_lineup` takes the two fields apart, since `check_lineups` begins with a bit and an array.
@@ -33,19 +29,26 @@ struct Rest<'a> {
     entries: &'a [u16],
 }
 
+/// Tries a field.
+#[tactic(auto, unfolding(crate::specs::Ranges::try_all, crate::specs::Ranges::ranged))]
+fn check_field(kind: FieldKind, bit: usize, value: u16) -> Result<usize, FieldFault>
+    requires { bit < 2 ^ 61 }
+    ensures { Checks result (tried bit (between kind.low kind.high) value ∷ []) (λ end. (end ≡ bit + bits_of kind.width)
+        × (kind.low ≤ value) × (value ≤ kind.high)) }
+{
+    ranged(bit, kind.low, kind.high, value)?;
+    Ok(bit + kind.width.bits())
+}
+
 /// Tries the fields before the events, from the first bit on.
 #[tactic(auto, using(crate::proofs::Tries::edition_in), unfolding(crate::specs::Ranges::try_all, crate::specs::Ranges::ranged, crate::specs::Layout::span))]
 fn check_header(recording: &Recording) -> Result<usize, FieldFault>
     ensures { Checks result (header_tries recording.now) (λ end. (end ≡ span (header_fields recording.now))
         × (1 ≤ recording.now.stations) × (recording.now.stations ≤ max_stations) × (recording.now.count ≤ max_events)) }
 {
-    let bit = EDITION_WIDTH.bits();
-    ranged(bit, 0, MAX_CODE, recording.code)?;
-    let bit = bit + CODE_WIDTH.bits();
-    ranged(bit, 1, MAX_STATIONS as u16, recording.stations)?;
-    let bit = bit + STATIONS_WIDTH.bits();
-    ranged(bit, 0, MAX_EVENTS as u16, recording.count)?;
-    Ok(bit + COUNT_WIDTH.bits())
+    let bit = check_field(CODE, EDITION.width.bits(), recording.code)?;
+    let bit = check_field(STATIONS, bit, recording.stations)?;
+    check_field(COUNT, bit, recording.count)
 }
 
 /// How items of one kind are tried, which a file holds one after the other.
@@ -92,12 +95,13 @@ impl Checkable for Events {
 
     #[tactic(auto, using(crate::proofs::Tries::kind_in), unfolding(crate::specs::Ranges::event_tries, crate::specs::Layout::event_fields, crate::specs::Ranges::try_all, crate::specs::Ranges::ranged, crate::specs::Layout::span))]
     fn check_one(&self, event: &Event, bit: usize) -> Result<usize, FieldFault> {
-        let station = bit + KIND_WIDTH.bits();
-        ranged(station, 0, self.stations.saturating_sub(1), event.station)?;
-        let end = station + STATION_WIDTH.bits();
+        let station = FieldKind {
+            high: self.stations.saturating_sub(1),
+            ..STATION
+        };
+        let end = check_field(station, bit + KIND.width.bits(), event.station)?;
         if event.kind.carries_order() {
-            ranged(end, 0, MAX_ORDER, event.order)?;
-            Ok(end + ORDER_WIDTH.bits())
+            check_field(ORDER, end, event.order)
         } else {
             ranged(bit, 0, 0, event.order)?;
             Ok(end)
@@ -116,8 +120,7 @@ impl Checkable for Entries {
 
     #[tactic(auto, unfolding(crate::specs::Ranges::try_all, crate::specs::Ranges::ranged, crate::specs::Layout::span))]
     fn check_one(&self, entry: &u16, bit: usize) -> Result<usize, FieldFault> {
-        ranged(bit, 0, MAX_CALL, *entry)?;
-        Ok(bit + ENTRY_WIDTH.bits())
+        check_field(ENTRY, bit, *entry)
     }
 }
 
@@ -131,9 +134,9 @@ fn check_lineup(count: u16, entries: &[u16], bit: usize) -> Result<Rest<'_>, Fie
         × (rest.entries.now ≡ drop count entries.now)
         × (count ≤ max_entries) × (rest.bit ≤ bit + (10 + 9 * max_entries))) }
 {
-    ranged(bit, 0, MAX_ENTRIES as u16, count)?;
+    let bit = check_field(LENGTH, bit, count)?;
     let (lineup, entries) = entries.split_at(usize::from(count));
-    let bit = Entries.check_all(lineup, bit + LENGTH_WIDTH.bits())?;
+    let bit = Entries.check_all(lineup, bit)?;
     Ok(Rest { bit, entries })
 }
 

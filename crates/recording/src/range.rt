@@ -6,7 +6,7 @@ ghost use Rattle.recording.specs.Faults.{field_told};
 use crate::fault::FieldFault;
 
 /// The value of a field, if it is from `low` to `high`; else the fault, at the bit that is given.
-// The two ends are parameters: a constant for each field would be taken apart again where the range depends on the record.
+// The two ends are parameters: a field has them in its `FieldKind`, but the range of an order that is not carried is no field's.
 pub fn ranged(bit: usize, low: u16, high: u16, value: u16) -> Result<u16, FieldFault>
     ensures { MatchResult result
         (λ v. (v ≡ value) × (low ≤ value) × (value ≤ high))

@@ -4,6 +4,9 @@ ghost use Rattle.std.specs.Prelude.{◌≡◌, ◌<◌, MatchResult};
 /// The highest code of a kind of lane.
 pub const MAX_CODE: u16 = 3;
 
+/// The highest number of a kind of event.
+pub const MAX_KIND: u16 = 4;
+
 /// The highest order.
 pub const MAX_ORDER: u16 = 4095;
 

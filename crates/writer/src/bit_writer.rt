@@ -8,7 +8,7 @@ ghost use Rattle.writer.specs.Laying.{LaidOver, Ready, filling_fields};
 
 use bits::set::set;
 use bits::width::Width;
-use recording::layout::FILLING_WIDTH;
+use recording::layout::FILLING;
 
 /// A place in the caller's bytes, counted in bits, at which the next field is written.
 #[derive(Drop)]
@@ -41,7 +41,7 @@ impl<'a> BitWriter<'a> {
         ensures { LaidOver self.old self.new (filling_fields self.old.place) }
     {
         while self.place % 8 != 0 {
-            self.put(FILLING_WIDTH, 0);
+            self.put(FILLING.width, 0);
         }
     }
 }

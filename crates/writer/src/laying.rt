@@ -10,10 +10,7 @@ ghost use Rattle.writer.specs.Laying.{LaidOver, Ready};
 ghost use Rattle.writer.specs.Writing.{file_size, max_size};
 
 use crate::bit_writer::BitWriter;
-use recording::layout::{
-    CODE_WIDTH, COUNT_WIDTH, EDITION, EDITION_WIDTH, ENTRY_WIDTH, KIND_WIDTH, LENGTH_WIDTH,
-    ORDER_WIDTH, STATION_WIDTH, STATIONS_WIDTH,
-};
+use recording::layout::{CODE, COUNT, EDITION, ENTRY, KIND, LENGTH, ORDER, STATION, STATIONS};
 use recording::record::{Event, Recording};
 
 /// An item that is laid out as fields.
@@ -32,10 +29,10 @@ impl Lay for Event {
     ghost fields = { event_fields };
 
     fn lay(&self, into: &mut BitWriter) {
-        into.put(KIND_WIDTH, u16::from(self.kind));
-        into.put(STATION_WIDTH, self.station);
+        into.put(KIND.width, u16::from(self.kind));
+        into.put(STATION.width, self.station);
         if self.kind.carries_order() {
-            into.put(ORDER_WIDTH, self.order);
+            into.put(ORDER.width, self.order);
         }
     }
 }
@@ -45,7 +42,7 @@ impl Lay for u16 {
     ghost fields = { entry_fields };
 
     fn lay(&self, into: &mut BitWriter) {
-        into.put(ENTRY_WIDTH, *self);
+        into.put(ENTRY.width, *self);
     }
 }
 
@@ -64,10 +61,10 @@ fn lay_header(recording: &Recording, into: &mut BitWriter)
     requires { Ready into.old (header_fields recording.now) }
     ensures { LaidOver into.old into.new (header_fields recording.now) }
 {
-    into.put(EDITION_WIDTH, EDITION);
-    into.put(CODE_WIDTH, recording.code);
-    into.put(STATIONS_WIDTH, recording.stations);
-    into.put(COUNT_WIDTH, recording.count);
+    into.put(EDITION.width, EDITION.low);
+    into.put(CODE.width, recording.code);
+    into.put(STATIONS.width, recording.stations);
+    into.put(COUNT.width, recording.count);
 }
 
 /// Lays out a line-up: its length, then its entries.
@@ -75,7 +72,7 @@ fn lay_lineup(lineup: &[u16], into: &mut BitWriter)
     requires { Ready into.old (lineup_fields lineup.now) }
     ensures { LaidOver into.old into.new (lineup_fields lineup.now) }
 {
-    into.put(LENGTH_WIDTH, lineup.len() as u16);
+    into.put(LENGTH.width, lineup.len() as u16);
     lay_all(lineup, into);
 }
 
