@@ -134,28 +134,31 @@ zeros_fail p [] h = absurd (h tt)
 zeros_fail p (zero ∷ vs) h = rw (inside_ranged p 0 0 0 (omega arith) (omega arith)) (zeros_fail p vs (λ k. h (refl, k)))
 zeros_fail p (suc v ∷ vs) h = rw (ranged_out p 0 0 (suc v) (told 2 (AtBit p)) (refl, inr (omega arith)))
 
--- items that are all the same as z, by a test that tells z from the others
-module _ {A : Type 0} (same : A → Bool) (z : A) where
-  same_by : ((x : A) → same x ≡ true → x ≡ z) → (xs : List A) → AllByRecursion (λ x. same x ≡ true) xs → xs ≡ replicate (length xs) z
+-- items that are all the same as z, by a fact that tells z from the others
+module _ {A : Type 0} (P : A → Type 0) (z : A) where
+  same_by : ((x : A) → P x → x ≡ z) → (xs : List A) → AllByRecursion P xs → xs ≡ replicate (length xs) z
   same_by f [] h = refl
   same_by f (x ∷ xs) h = rw (f x h.0) (ap (λ (l : List A). z ∷ l) (same_by f xs h.1))
 
-  by_same : same z ≡ true → (n : ℕ) → AllByRecursion (λ x. same x ≡ true) (replicate n z)
+  by_same : P z → (n : ℕ) → AllByRecursion P (replicate n z)
   by_same k zero = tt
   by_same k (suc n) = (k, by_same k n)
 
-  pub all_same : ((x : A) → same x ≡ true → x ≡ z) → (xs : List A) → All (λ x. same x ≡ true) xs → xs ≡ replicate (length xs) z
+  pub all_same : ((x : A) → P x → x ≡ z) → (xs : List A) → All P xs → xs ≡ replicate (length xs) z
   all_same f xs h = same_by f xs (recursion_from_All _ xs h)
 
-  pub not_same : same z ≡ true → (xs : List A) (b : Bool) → (All (λ x. same x ≡ true) xs → IsTrue b) → b ≡ false → xs ≡ replicate (length xs) z → ⊥
+  pub not_same : P z → (xs : List A) (b : Bool) → (All P xs → IsTrue b) → b ≡ false → xs ≡ replicate (length xs) z → ⊥
   not_same k xs b tells f e = both_ways b f (tells (rw e (All-from_recursion _ _ (by_same k (length xs)))))
 
 -- the tests of an event and of a number, as their derived and their own equality are
 abbrev pub is_no_event : Event → Bool
 is_no_event e = sameb the_type e.kind PostCalled && (e.station == 0 && e.order == 0)
 
-abbrev pub is_zero : ℕ → Bool
-is_zero n = n == 0
+abbrev pub IsZero : ℕ → Type 0
+IsZero n = (n == 0) ≡ true
+
+abbrev pub IsNoEvent : Event → Type 0
+IsNoEvent e = e ≡ no_event
 
 first_only : (k : EventKind) → sameb the_type k PostCalled ≡ true → k ≡ PostCalled
 first_only PostCalled h = refl
@@ -294,3 +297,9 @@ pub ruleset used_steps = (header_outside, events_outside, lineups_outside, all_u
 
 -- what the check of the places not in use uses
 pub ruleset unused_steps = (used_inside, most_entries)
+
+-- what the test of events uses
+pub no_event_is : (e : Event) → e ≡ no_event → is_no_event e ≡ true
+no_event_is e h = rw h refl
+
+pub ruleset zero_event_steps = (no_event_only, no_event_is)

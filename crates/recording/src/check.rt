@@ -10,7 +10,7 @@ ghost use Rattle.bits.specs.Widths.{bits_of};
 ghost use Rattle.recording.specs.Faults.{field_told};
 ghost use Rattle.recording.specs.Layout.{Field, entry_fields, event_fields, header_fields, lineup_fields, max_bits, record_fields, span};
 ghost use Rattle.recording.specs.Ranges.{Checks, Outside, Tried, between, entry_tries, event_tries, header_tries, lineup_tries, lineups_tries, many_tries, tried, try_all, used_tries};
-ghost use Rattle.recording.specs.Record.{Limits, all_entries, max_entries, max_events, max_stations, parts, total, used_lengths};
+ghost use Rattle.recording.specs.Record.{Limits, all_entries, max_entries, max_events, max_stations, no_event, parts, total, used_lengths};
 ghost use Rattle.std.specs.List.{flat_map};
 
 use crate::fault::FieldFault;
@@ -169,6 +169,14 @@ fn all_are<T: PartialEq>(items: &[T], one: &T) -> bool
     items.iter().all(|item| item == one)
 }
 
+/// Whether events are zero throughout.
+#[tactic(auto, using(crate::proofs::Checks::zero_event_steps))]
+fn are_zero(events: &[Event]) -> bool
+    ensures { IsTrue result ↔ All (λ event. event ≡ no_event) events.now }
+{
+    all_are(events, &Event::ZERO)
+}
+
 /// Tries the fields, in the sequence of the file.
 #[tactic(auto, using(crate::proofs::Checks::used_steps), unfolding(crate::specs::Layout::span))]
 fn check_used(recording: &Recording) -> Result<Rest<'_>, FieldFault>
@@ -200,7 +208,7 @@ fn check_unused(recording: &Recording, rest: Rest) -> Result<(), FieldFault>
     let Rest { bit, entries } = rest;
     let events = &recording.events[usize::from(recording.count)..];
     let lengths = &recording.lengths[usize::from(recording.stations)..];
-    if all_are(events, &Event::ZERO) && all_are(lengths, &0) && all_are(entries, &0) {
+    if are_zero(events) && all_are(lengths, &0) && all_are(entries, &0) {
         Ok(())
     } else {
         Err(FieldFault::Range { bit })
