@@ -17,7 +17,6 @@ ghost use Rattle.recording.specs.Record.{all_zero, max_entries, max_events, max_
 
 use crate::fault::ReadFault;
 use bits::cursor::BitCursor;
-use recording::fault::FieldFault;
 use recording::items::{Entries, Events};
 use recording::layout::{
     CODE, COUNT, EDITION, ENTRY, FILLING, FieldKind, KIND, LENGTH, ORDER, STATION, STATIONS,
@@ -69,7 +68,6 @@ fn read_header(cursor: &mut BitCursor) -> Result<Header, ReadFault>
 }
 
 /// The next field, the kind of an event.
-// Apart from `field`, since what is tried of the number is whether a kind has it.
 #[tactic(auto, unfolding(crate::specs::Reading::field_at, recording::specs::Ranges::ranged))]
 fn read_kind(cursor: &mut BitCursor) -> Result<EventKind, ReadFault>
     requires { cursor.old.place < 2 ^ 60 }
@@ -77,9 +75,8 @@ fn read_kind(cursor: &mut BitCursor) -> Result<EventKind, ReadFault>
     ensures reading { Gives (λ kind. (number_of kind, cursor.new.place)) result
         (field_at cursor.old.bytes.now cursor.old.place 3 0 max_kind) }
 {
-    let bit = cursor.place();
-    let number = cursor.take(KIND.width)?;
-    Ok(EventKind::try_from(number).map_err(|_| FieldFault::Range { bit })?)
+    let number = field(cursor, KIND)?;
+    Ok(EventKind::try_from(number).unwrap())
 }
 
 /// How items of one kind are read, which a file holds one after the other.
@@ -162,9 +159,9 @@ fn read_lineup(cursor: &mut BitCursor, slots: &mut [u16]) -> Result<u16, ReadFau
     Ok(length)
 }
 
-/// A line-up for each length, one after the other into the entries. It calls itself once for each length.
+/// A line-up for each length, one after the other into the entries.
 // Lengths and entries are two parameters, as a record has them.
-#[tactic(auto, using(crate::proofs::Lineups::lineups_steps), unfolding(crate::specs::Reading::many_at, recording::specs::Record::parts, recording::specs::Record::total))]
+#[tactic(auto, using(crate::proofs::Many::many_steps), unfolding(recording::specs::Record::parts, recording::specs::Record::total))]
 fn read_lineups(
     cursor: &mut BitCursor,
     lengths: &mut [u16],
@@ -178,12 +175,13 @@ fn read_lineups(
     ensures few { IfOk result (λ _. total lengths.new ≤ max_entries * length lengths.old) }
     ensures rest { IfOk result (λ _. drop (total lengths.new) entries.new ≡ drop (total lengths.new) entries.old) }
 {
-    let Some((length, others)) = lengths.split_first_mut() else {
-        return Ok(());
-    };
-    *length = read_lineup(cursor, entries)?;
-    let (_, rest) = entries.split_at_mut(usize::from(*length));
-    read_lineups(cursor, others, rest)
+    // Not a `&mut` of the entries that each turn shortens: after such a loop the proof knows nothing of them.
+    let mut start = 0;
+    for length in lengths.iter_mut() {
+        *length = read_lineup(cursor, &mut entries[start..])?;
+        start += usize::from(*length);
+    }
+    Ok(())
 }
 
 /// The filling bits, and no byte after them.
@@ -194,9 +192,8 @@ fn read_filling(cursor: &mut BitCursor) -> Result<(), ReadFault>
 {
     while cursor.place() % 8 != 0 {
         let bit = cursor.place();
-        if cursor.take(FILLING.width)? != 0 {
-            return Err(ReadFault::Filling { bit });
-        }
+        let filler = cursor.take(FILLING.width)?;
+        ranged(bit, FILLING.low, FILLING.high, filler).map_err(|_| ReadFault::Filling { bit })?;
     }
     if !cursor.at_end() {
         return Err(ReadFault::Filling {

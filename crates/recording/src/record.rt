@@ -82,7 +82,7 @@ impl TryFrom<u16> for EventKind {
             1 => Ok(EventKind::DrawCalled),
             2 => Ok(EventKind::PostAnswered),
             3 => Ok(EventKind::DrawAnswered),
-            4 => Ok(EventKind::DrawEmpty),
+            MAX_KIND => Ok(EventKind::DrawEmpty),
             _ => Err(UnknownKind),
         }
     }
