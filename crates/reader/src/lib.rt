@@ -175,7 +175,8 @@ fn read_lineups(
     ensures few { IfOk result (λ _. total lengths.new ≤ max_entries * length lengths.old) }
     ensures rest { IfOk result (λ _. drop (total lengths.new) entries.new ≡ drop (total lengths.new) entries.old) }
 {
-    // Not a `&mut` of the entries that each turn shortens: after such a loop the proof knows nothing of them.
+    // Not a `&mut` of the entries that each turn shortens: after such a loop the proof knows nothing of them. And no
+    // recursion, which keeps the cursor in memory: so line-ups took more than twice the time.
     let mut start = 0;
     for length in lengths.iter_mut() {
         *length = read_lineup(cursor, &mut entries[start..])?;
