@@ -132,7 +132,7 @@ order_fits e true o = (omega arith, tt)
 order_fits e false o = tt
 
 module _ (r : Recording) {a : BitWriter} (z : a.place ≡ 0) where
-  ready_file : length a.bytes.now ≡ file_size r → Limits r → file_size r < 2 ^ 50 → Ready a (record_fields r ++ filling_fields (span (record_fields r)))
+  pub ready_file : length a.bytes.now ≡ file_size r → Limits r → file_size r < 2 ^ 50 → Ready a (record_fields r ++ filling_fields (span (record_fields r)))
   ready_file n o h =
       let p = span (record_fields r) in
       let s = span_append (record_fields r) (filling_fields p) in
@@ -141,7 +141,7 @@ module _ (r : Recording) {a : BitWriter} (z : a.place ≡ 0) where
       record { fits = all_append Fits (record_fields r) (filling_fields p) (record_fits r o) (zeros_fit (gap p)); room = omega arith }
 
   -- as ready_filling, for a writer over any bytes that have room for the fields and the filling
-  ready_filling_of : {b : BitWriter} → Ready a (record_fields r ++ filling_fields (span (record_fields r))) → LaidOver a b (record_fields r) → Ready b (filling_fields b.place)
+  pub ready_filling_of : {b : BitWriter} → Ready a (record_fields r ++ filling_fields (span (record_fields r))) → LaidOver a b (record_fields r) → Ready b (filling_fields b.place)
   ready_filling_of {b} h f =
       let e = f.end in
       let p : span (record_fields r) ≡ b.place = omega arith in

@@ -132,7 +132,7 @@ filling_more {a} {b} {c} l h w =
 -- ---- steps that no proof here takes any more; PORT.md names them
 
 -- one field, set to a value that fits it
-wrote_set : {a b : BitWriter} (w v : ℕ) → b.bytes.ghost_name ≡ a.bytes.ghost_name → v < 2 ^ w → b.place ≡ a.place + w → Overwritten a.bytes.now b.bytes.now a.place w (v % 2 ^ w)
+pub wrote_set : {a b : BitWriter} (w v : ℕ) → b.bytes.ghost_name ≡ a.bytes.ghost_name → v < 2 ^ w → b.place ≡ a.place + w → Overwritten a.bytes.now b.bytes.now a.place w (v % 2 ^ w)
     → LaidOver a b (bits w v ∷ [])
 unfolding Laid span
 wrote_set {a} {b} w v n h e o =
@@ -145,15 +145,15 @@ wrote_set {a} {b} w v n h e o =
     }
 
 module _ {A : Type 0} (fields : A → List Field) (xs : List A) (i : ℕ) (d : A) (h : i < length xs) {a : BitWriter} (r : Ready a (flat_map fields (drop i xs))) where
-  ready_item : Ready a (fields (get_or xs i d))
+  pub ready_item : Ready a (fields (get_or xs i d))
   ready_item = ready_front _ (rw (drop_more xs i d h) at r)
 
-  ready_items : {b : BitWriter} → b.place ≡ a.place + span (fields (get_or xs i d)) → length b.bytes.now ≡ length a.bytes.now → Ready b (flat_map fields (drop (i + 1) xs))
+  pub ready_items : {b : BitWriter} → b.place ≡ a.place + span (fields (get_or xs i d)) → length b.bytes.now ≡ length a.bytes.now → Ready b (flat_map fields (drop (i + 1) xs))
   ready_items e l = ready_back (fields (get_or xs i d)) _ (rw (drop_more xs i d h) at r) e l
 
 module _ (ns es : List ℕ) (i s : ℕ) (h : i < length ns) where
   -- the line-up at i ends within the entries that all have
-  lineup_ends : s ≡ total (take i ns) → s + get_or ns i 0 ≤ total ns
+  pub lineup_ends : s ≡ total (take i ns) → s + get_or ns i 0 ≤ total ns
   unfolding total
   lineup_ends e =
       let a = ap total (take-append-drop i ns) in
@@ -161,31 +161,31 @@ module _ (ns es : List ℕ) (i s : ℕ) (h : i < length ns) where
       let c = ap total (drop_more ns i 0 h) in
       omega arith
 
-  lineups_start : s ≡ total (take i ns) → s + get_or ns i 0 ≡ total (take (i + 1) ns)
+  pub lineups_start : s ≡ total (take i ns) → s + get_or ns i 0 ≡ total (take (i + 1) ns)
   unfolding total
   lineups_start e = rw (take_more ns i 0 h, total_append (take i ns) (get_or ns i 0 ∷ [])) (omega arith)
 
-  lineups_ready : {a : BitWriter} → Ready a (flat_map lineup_fields (parts (drop i ns) (drop s es)))
+  pub lineups_ready : {a : BitWriter} → Ready a (flat_map lineup_fields (parts (drop i ns) (drop s es)))
       → Ready a (lineup_fields (take (get_or ns i 0) (drop s es)) ++ flat_map lineup_fields (parts (drop (i + 1) ns) (drop (s + get_or ns i 0) es)))
   unfolding parts
   lineups_ready r = rw (drop-drop (get_or ns i 0) s es) at (rw (drop_more ns i 0 h) at r)
 
-  lineups_wrote : s ≡ total (take i ns) → {a b c : BitWriter} → LaidOver a b (flat_map lineup_fields (parts (take i ns) es))
+  pub lineups_wrote : s ≡ total (take i ns) → {a b c : BitWriter} → LaidOver a b (flat_map lineup_fields (parts (take i ns) es))
       → LaidOver b c (lineup_fields (take (get_or ns i 0) (drop s es))) → LaidOver a c (flat_map lineup_fields (parts (take (i + 1) ns) es))
   lineups_wrote e f g =
       rw (take_more ns i 0 h, parts_push (take i ns) es (get_or ns i 0), ← e, ← flat_map_more lineup_fields [] (parts (take i ns) es) (take (get_or ns i 0) (drop s es)))
       (wrote_append f g)
 
 -- as lineups_all, from the line-ups that are written
-lineups_whole : (ns es : List ℕ) (i : ℕ) → length ns ≤ i → {a b : BitWriter} → LaidOver a b (flat_map lineup_fields (parts (take i ns) es)) → LaidOver a b (flat_map lineup_fields (parts ns es))
+pub lineups_whole : (ns es : List ℕ) (i : ℕ) → length ns ≤ i → {a b : BitWriter} → LaidOver a b (flat_map lineup_fields (parts (take i ns) es)) → LaidOver a b (flat_map lineup_fields (parts ns es))
 lineups_whole ns es i h f = rw (take_all i ns h) at f
 
 module _ (n i : ℕ) (h : i < n) where
   next_bit : n - i ≡ suc (n - (i + 1))
   next_bit = omega arith
 
-  ready_bit : {a : BitWriter} → Ready a (replicate (n - i) (bits 1 0)) → Ready a (bits 1 0 ∷ replicate (n - (i + 1)) (bits 1 0))
+  pub ready_bit : {a : BitWriter} → Ready a (replicate (n - i) (bits 1 0)) → Ready a (bits 1 0 ∷ replicate (n - (i + 1)) (bits 1 0))
   ready_bit r = rw next_bit at r
 
-  wrote_bit : {a b c : BitWriter} → LaidOver a b (replicate i (bits 1 0)) → LaidOver b c (bits 1 0 ∷ []) → LaidOver a c (replicate (i + 1) (bits 1 0))
+  pub wrote_bit : {a b c : BitWriter} → LaidOver a b (replicate i (bits 1 0)) → LaidOver b c (bits 1 0 ∷ []) → LaidOver a c (replicate (i + 1) (bits 1 0))
   wrote_bit f g = rw (← replicate_more i (bits 1 0)) (wrote_append f g)
