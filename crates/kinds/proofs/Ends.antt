@@ -1,7 +1,8 @@
 -- The two ends of a list of held orders.
-use Rattle.std.proofs.Common.{◌≡◌, ℕ, zero, suc, ◌-◌, ◌<◌, ◌≤◌, true, List, [], ◌∷◌, length, get_or, slice_get, Some, None, Option, refl, ap, ◌∙◌, sub-one, arith, Bor, MatchOption}
+use Rattle.std.proofs.Common.{◌≡◌, ℕ, zero, suc, ◌-◌, ◌<◌, ◌≤◌, true, List, [], ◌∷◌, length, get_or, slice_get, Some, None, Option, sym, refl, ap, ◌∙◌, sub-one, arith, Bor, MatchOption}
 use Rattle.std.specs.Option.{option_map}
 use Rattle.std.specs.List.{HoldsAt}
+use Rattle.std.proofs.lemmas.Option.{slice_get-get_or}
 use Rattle.bank.specs.Orders.{holds}
 use Rattle.bank.specs.Rules.{is_that, newest_of, oldest_of, only_newest, only_oldest}
 use Rattle.kinds.specs.Picks.{Picks}
@@ -46,6 +47,12 @@ oldest_read [] None h = refl
 oldest_read [] (Some x) h = absurd (omega (arith, h.0))
 oldest_read (y ∷ ys) None h = absurd (omega (arith, h))
 oldest_read (y ∷ ys) (Some x) h = ap Some (h.1 0)
+
+pub newest_read : (xs : List ℕ) (o : Option (Bor ℕ)) → Read xs (length xs - 1) o → option_map (λ x. x.now) o ≡ newest_of xs
+newest_read [] None h = refl
+newest_read [] (Some x) h = absurd (omega (arith, h.0))
+newest_read (y ∷ ys) None h = absurd (omega (arith, h))
+newest_read (y ∷ ys) (Some x) h = ap Some (h.1 0) ∙ sym (slice_get-get_or (y ∷ ys) (length (y ∷ ys) - 1) 0 (omega arith)) ∙ newest_get (y ∷ ys)
 
 held_at : (xs : List ℕ) (i : ℕ) → i < length xs → holds xs (get_or xs i 0) ≡ true
 held_at [] i h = absurd (omega arith)
