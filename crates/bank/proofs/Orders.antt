@@ -1,5 +1,5 @@
 -- Lists of orders: what is on them once an order is added or taken off.
-use Rattle.std.proofs.Common.{◌≡◌, ℕ, ◌+◌, ◌≤◌, Bool, true, false, not, ◌&&◌, ◌||◌, eqb, List, [], ◌∷◌, ◌++◌, length, filter, sym, refl, ap, ◌∙◌, ⊎_elim, arith}
+use Rattle.std.proofs.Common.{◌≡◌, ℕ, ◌+◌, ◌≤◌, Bool, true, false, cond, not, ◌&&◌, ◌||◌, eqb, List, [], ◌∷◌, ◌++◌, length, filter, sym, refl, ap, ◌∙◌, ⊎_elim, arith}
 use Rattle.std.specs.List.{list_any}
 use Rattle.std.proofs.Math.Bool.{and_comm}
 use Rattle.std.proofs.lemmas.List.Filters.{length-filter_both}
@@ -81,3 +81,22 @@ around_held (z ∷ zs) x h =
 pub length_without : (xs : List ℕ) (x : ℕ) → proper xs ≡ true → holds xs x ≡ true → length (without xs x) + 1 ≡ length xs
 length_without [] x p h = absurd (false≢true h)
 length_without (z ∷ zs) x p h = grind (arith, without_none zs x, length_without zs x)
+
+-- ---- steps that no proof here takes any more; PORT.md names them
+
+eqb_sym : (a b : ℕ) → eqb a b ≡ false → eqb b a ≡ false
+eqb_sym a b e = grind (arith, e)
+
+-- one element of a filtered list: e says that it is the one that is looked for, h that the rest has that one, q whether
+-- that one passes, t whether this element passes
+kept_one : (e h q t : Bool) → (e ≡ true → t ≡ q) → cond t (e || (h && q)) (h && q) ≡ ((e || h) && q)
+kept_one true h q t same = rw (same refl) (grind arith)
+kept_one false h q t same = grind arith
+
+holds_cond : (t : Bool) (z : ℕ) (zs : List ℕ) (y : ℕ) → holds (cond t (z ∷ zs) zs) y ≡ cond t (eqb z y || holds zs y) (holds zs y)
+holds_cond t z zs y = grind arith
+
+-- what stands before and after an order on a list without repeats
+proper_around : (before after : List ℕ) (x : ℕ) → proper (before ++ x ∷ after) ≡ true → (holds before x ≡ false) × (holds after x ≡ false)
+proper_around [] after x p = (refl, grind arith)
+proper_around (y ∷ ys) after x p = let r = proper_around ys after x (grind arith) in (grind (arith, r.0, holds_append ys (x ∷ after) y), r.1)

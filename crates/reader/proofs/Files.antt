@@ -1,5 +1,6 @@
 -- A file is taken exactly when it is the layout of a recording within the limits.
-use Rattle.std.proofs.Common.{◌≡◌, ℕ, zero, suc, ◌+◌, ◌*◌, ◌<◌, ◌≤◌, cond, eqb, ltb, List, [], ◌∷◌, ◌++◌, map, length, Ok, Err, Result, sym, refl, ap, ◌∙◌, subst, inl, inr, add-zero, arith}
+use Rattle.std.proofs.Common.{◌≡◌, ℕ, zero, suc, ◌+◌, ◌*◌, ◌<◌, ◌≤◌, cond, eqb, ltb, List, [], ◌∷◌, ◌++◌, map, length, take, replicate, Ok, Err, Result, sym, refl, ap, ◌∙◌, subst, inl, inr, add-zero, arith, length-take}
+use lib.ListN.{length-replicate}
 use Rattle.std.specs.List.{flat_map}
 use Rattle.std.proofs.lemmas.List.{length-map}
 use Rattle.std.proofs.lemmas.List.Elements.{All-from_recursion, recursion_from_All}
@@ -229,3 +230,8 @@ pub read_whole : {X : Type 0} (bs : List ℕ) (r : Recording) (result : Result X
     → MatchResult result (λ _. Holds bs r) (λ e. Faulty bs (read_told e))
 read_whole bs r (Ok x) h = holds bs r h
 read_whole bs r (Err e) h = faulty bs (read_told e) h
+
+-- ---- a step that no proof here takes any more
+
+slots_length : (evs : List Event) (n : ℕ) → evs ≡ replicate max_events no_event → n ≤ max_events → length (take n evs) ≡ n
+slots_length evs n e h = length-take n evs ∙ rw (e, length-replicate) (omega arith)

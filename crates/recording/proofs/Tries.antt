@@ -148,3 +148,15 @@ pub first_out : (ts : List Tried) (t : Told) → try_all ts ≡ Err t → FirstO
 unfolding try_all
 first_out [] t h = absurd (not_both tt t h)
 first_out (x ∷ ts) t h = first_by x ts t (ranged x.bit x.bounds.low x.bounds.high x.value) refl h (first_out ts t)
+
+-- ---- steps that no proof here takes any more; PORT.md names them
+
+-- the entries of the line-ups to come
+module _ (ns : List ℕ) (i : ℕ) where
+  pub total_more : i < length ns → total (drop i ns) ≡ get_or ns i 0 + total (drop (i + 1) ns)
+  unfolding total
+  total_more h = rw (drop_more ns i 0 h)
+
+  pub total_done : length ns ≤ i → total (drop i ns) ≡ 0
+  unfolding total
+  total_done h = rw (drop_of_length-le ns h)

@@ -1,5 +1,5 @@
 -- The fields of a recording within the limits fit, and laid out with their filling they are its file.
-use Rattle.std.proofs.Common.{◌≡◌, ℕ, zero, suc, ◌+◌, ◌*◌, ◌/◌, ◌<◌, ◌≤◌, List, [], ◌∷◌, ◌++◌, length, get_or, take, replicate, refl, ap, ◌∙◌, inl, arith, rules, length-take, drop, sym}
+use Rattle.std.proofs.Common.{◌≡◌, ℕ, zero, suc, ◌+◌, ◌*◌, ◌/◌, ◌^◌, ◌<◌, ◌≤◌, Bool, true, false, cond, List, [], ◌∷◌, ◌++◌, length, get_or, take, replicate, refl, ap, ◌∙◌, inl, arith, rules, length-take, drop, sym}
 use Rattle.std.specs.List.{flat_map}
 use Rattle.std.proofs.lemmas.List.{drop_at, get_or_past, get_or-take, take_at}
 use Rattle.std.proofs.lemmas.List.Elements.{recursion_from_All}
@@ -9,10 +9,11 @@ use Rattle.bits.proofs.Spells.{spelled_split}
 use Rattle.recording.specs.declared.record.Event.{Event}
 use Rattle.recording.specs.declared.record.Recording.{Recording}
 use Rattle.recording.specs.Layout.{IsFile, Laid, bits, entry_fields, event_fields, gap, header_fields, lineup_fields, record_fields, span}
-use Rattle.recording.specs.Record.{EventOk, Limits, lineups_of, max_call, max_stations, used_events, used_lengths}
+use Rattle.recording.specs.Record.{EventOk, Limits, lineups_of, max_call, max_order, max_stations, used_events, used_lengths}
 use Rattle.std.specs.List.{AllByRecursion}
-use Rattle.recording.proofs.Layouts.{kind_most, laid_same, same_file}
+use Rattle.recording.proofs.Layouts.{kind_most, laid_same, same_file, span_append}
 use Rattle.recording.proofs.Lineups.{LineupOk, all_append, all_parts, full_entries}
+use Rattle.writer.proofs.Lays.{ready_next}
 use Rattle.writer.specs.Laying.{Fits, LaidOver, Ready, filling_fields}
 use Rattle.writer.specs.declared.bit_writer.BitWriter.{BitWriter}
 use Rattle.writer.specs.Writing.{Written, file_size, max_size}
@@ -27,9 +28,12 @@ event_fits : (st : ℕ) → st ≤ max_stations → (e : Event) → EventOk st e
 unfolding event_fields
 event_fits st h e o = let k = kind_most e.kind in grind (arith, k, o.station, o.order)
 
+entries_fit : (es : List ℕ) → AllByRecursion (λ c. c ≤ max_call) es → AllByRecursion Fits (flat_map entry_fields es)
+entries_fit es o = all_flat_map (λ c. c ≤ max_call) Fits entry_fields (λ c h. (omega arith, tt)) es o
+
 lineup_fits : (l : List ℕ) → LineupOk l → AllByRecursion Fits (lineup_fields l)
 unfolding lineup_fields
-lineup_fits l o = (omega (arith, o.0), all_flat_map (λ c. c ≤ max_call) Fits entry_fields (λ c h. (omega arith, tt)) l o.1)
+lineup_fits l o = (omega (arith, o.0), entries_fit l o.1)
 
 zeros_fit : (n : ℕ) → AllByRecursion Fits (replicate n (bits 1 0))
 zeros_fit zero = tt
@@ -120,3 +124,25 @@ front_written r n old bs o s m f h =
       only = λ cs c i. same_file cs _ r c (front_small n (bs ++ drop n old) h) i g;
       rest = drop_at bs (drop n old) n k;
     }
+
+-- ---- steps that no proof here takes any more; PORT.md names them
+
+order_fits : (e : Event) (b : Bool) → e.order ≤ max_order → AllByRecursion Fits (cond b (bits 12 e.order ∷ []) [])
+order_fits e true o = (omega arith, tt)
+order_fits e false o = tt
+
+module _ (r : Recording) {a : BitWriter} (z : a.place ≡ 0) where
+  pub ready_file : length a.bytes.now ≡ file_size r → Limits r → file_size r < 2 ^ 50 → Ready a (record_fields r ++ filling_fields (span (record_fields r)))
+  ready_file n o h =
+      let p = span (record_fields r) in
+      let s = span_append (record_fields r) (filling_fields p) in
+      let g = zeros_span (gap p) in
+      let b = size_bits p in
+      record { fits = all_append Fits (record_fields r) (filling_fields p) (record_fits r o) (zeros_fit (gap p)); room = omega arith }
+
+  -- as ready_filling, for a writer over any bytes that have room for the fields and the filling
+  pub ready_filling_of : {b : BitWriter} → Ready a (record_fields r ++ filling_fields (span (record_fields r))) → LaidOver a b (record_fields r) → Ready b (filling_fields b.place)
+  ready_filling_of {b} h f =
+      let e = f.end in
+      let p : span (record_fields r) ≡ b.place = omega arith in
+      rw p at (ready_next (filling_fields (span (record_fields r))) h f)

@@ -1,11 +1,12 @@
 -- Fields written one after the other.
-use Rattle.std.proofs.Common.{◌≡◌, ℕ, suc, ◌+◌, ◌%◌, ◌<◌, ◌≤◌, List, [], ◌∷◌, ◌++◌, length, get_or, take, drop, refl, ◌∙◌, inl, inr, add-zero, sym, arith}
+use Rattle.std.proofs.Common.{◌≡◌, ℕ, suc, ◌+◌, ◌-◌, ◌%◌, ◌^◌, ◌<◌, ◌≤◌, List, [], ◌∷◌, ◌++◌, length, get_or, take, drop, replicate, refl, ap, ◌∙◌, inl, inr, add-zero, mod-eq_of_lt, sym, arith, take-append-drop, drop-drop}
 use Rattle.std.specs.List.{flat_map}
-use Rattle.std.proofs.lemmas.List.{drop_more, drop_all, flat_map_more, length-drop, take_more}
+use Rattle.std.proofs.lemmas.List.{drop_more, drop_all, flat_map_more, length-drop, replicate_more, take_all, take_more}
+use Rattle.bits.specs.Bits.{Overwritten}
 use Rattle.recording.specs.Layout.{Field, Laid, bits, gap, lineup_fields, span}
 use Rattle.recording.specs.Record.{parts, total}
 use Rattle.recording.proofs.Layouts.{laid_append, laid_same, span_append}
-use Rattle.recording.proofs.Lineups.{all_split}
+use Rattle.recording.proofs.Lineups.{all_split, parts_push, total_append}
 use Rattle.writer.specs.declared.bit_writer.BitWriter.{BitWriter}
 use Rattle.writer.specs.Laying.{Fits, LaidOver, Ready, filling_fields}
 
@@ -48,13 +49,15 @@ ready_front {w} {fs} gs h =
     let a = h.room in
     record { fits = (all_split Fits fs gs h.fits).0; room = omega arith }
 
-pub ready_next : {a b : BitWriter} {fs : List Field} (gs : List Field) → Ready a (fs ++ gs) → LaidOver a b fs → Ready b gs
-ready_next {a} {b} {fs} gs h w =
+-- any writer that stands after the fields fs, over as many bytes
+pub ready_back : {a b : BitWriter} (fs gs : List Field) → Ready a (fs ++ gs) → b.place ≡ a.place + span fs → length b.bytes.now ≡ length a.bytes.now → Ready b gs
+ready_back {a} {b} fs gs h e l =
     let s = span_append fs gs in
     let r = h.room in
-    let e = w.end in
-    let l = w.long in
     record { fits = (all_split Fits fs gs h.fits).1; room = omega arith }
+
+pub ready_next : {a b : BitWriter} {fs : List Field} (gs : List Field) → Ready a (fs ++ gs) → LaidOver a b fs → Ready b gs
+ready_next gs h w = ready_back _ gs h w.end w.long
 
 -- ---- fields that are left to write
 
@@ -125,3 +128,64 @@ filling_more {a} {b} {c} l h w =
     let e = w.end in
     let g : gap b.place ≡ suc (gap c.place) = omega arith in
     left_more (rw g at l) w
+
+-- ---- steps that no proof here takes any more; PORT.md names them
+
+-- one field, set to a value that fits it
+pub wrote_set : {a b : BitWriter} (w v : ℕ) → b.bytes.ghost_name ≡ a.bytes.ghost_name → v < 2 ^ w → b.place ≡ a.place + w → Overwritten a.bytes.now b.bytes.now a.place w (v % 2 ^ w)
+    → LaidOver a b (bits w v ∷ [])
+unfolding Laid span
+wrote_set {a} {b} w v n h e o =
+    record {
+      same_reference = n;
+      laid = (o.field ∙ mod-eq_of_lt h, tt);
+      end = omega arith;
+      others = λ k l. o.others k (elim l [ inl a ↦ inl a | inr a ↦ inr (omega arith) ]);
+      long = o.long;
+    }
+
+module _ {A : Type 0} (fields : A → List Field) (xs : List A) (i : ℕ) (d : A) (h : i < length xs) {a : BitWriter} (r : Ready a (flat_map fields (drop i xs))) where
+  pub ready_item : Ready a (fields (get_or xs i d))
+  ready_item = ready_front _ (rw (drop_more xs i d h) at r)
+
+  pub ready_items : {b : BitWriter} → b.place ≡ a.place + span (fields (get_or xs i d)) → length b.bytes.now ≡ length a.bytes.now → Ready b (flat_map fields (drop (i + 1) xs))
+  ready_items e l = ready_back (fields (get_or xs i d)) _ (rw (drop_more xs i d h) at r) e l
+
+module _ (ns es : List ℕ) (i s : ℕ) (h : i < length ns) where
+  -- the line-up at i ends within the entries that all have
+  pub lineup_ends : s ≡ total (take i ns) → s + get_or ns i 0 ≤ total ns
+  unfolding total
+  lineup_ends e =
+      let a = ap total (take-append-drop i ns) in
+      let b = total_append (take i ns) (drop i ns) in
+      let c = ap total (drop_more ns i 0 h) in
+      omega arith
+
+  pub lineups_start : s ≡ total (take i ns) → s + get_or ns i 0 ≡ total (take (i + 1) ns)
+  unfolding total
+  lineups_start e = rw (take_more ns i 0 h, total_append (take i ns) (get_or ns i 0 ∷ [])) (omega arith)
+
+  pub lineups_ready : {a : BitWriter} → Ready a (flat_map lineup_fields (parts (drop i ns) (drop s es)))
+      → Ready a (lineup_fields (take (get_or ns i 0) (drop s es)) ++ flat_map lineup_fields (parts (drop (i + 1) ns) (drop (s + get_or ns i 0) es)))
+  unfolding parts
+  lineups_ready r = rw (drop-drop (get_or ns i 0) s es) at (rw (drop_more ns i 0 h) at r)
+
+  pub lineups_wrote : s ≡ total (take i ns) → {a b c : BitWriter} → LaidOver a b (flat_map lineup_fields (parts (take i ns) es))
+      → LaidOver b c (lineup_fields (take (get_or ns i 0) (drop s es))) → LaidOver a c (flat_map lineup_fields (parts (take (i + 1) ns) es))
+  lineups_wrote e f g =
+      rw (take_more ns i 0 h, parts_push (take i ns) es (get_or ns i 0), ← e, ← flat_map_more lineup_fields [] (parts (take i ns) es) (take (get_or ns i 0) (drop s es)))
+      (wrote_append f g)
+
+-- as lineups_all, from the line-ups that are written
+pub lineups_whole : (ns es : List ℕ) (i : ℕ) → length ns ≤ i → {a b : BitWriter} → LaidOver a b (flat_map lineup_fields (parts (take i ns) es)) → LaidOver a b (flat_map lineup_fields (parts ns es))
+lineups_whole ns es i h f = rw (take_all i ns h) at f
+
+module _ (n i : ℕ) (h : i < n) where
+  next_bit : n - i ≡ suc (n - (i + 1))
+  next_bit = omega arith
+
+  pub ready_bit : {a : BitWriter} → Ready a (replicate (n - i) (bits 1 0)) → Ready a (bits 1 0 ∷ replicate (n - (i + 1)) (bits 1 0))
+  ready_bit r = rw next_bit at r
+
+  pub wrote_bit : {a b c : BitWriter} → LaidOver a b (replicate i (bits 1 0)) → LaidOver b c (bits 1 0 ∷ []) → LaidOver a c (replicate (i + 1) (bits 1 0))
+  wrote_bit f g = rw (← replicate_more i (bits 1 0)) (wrote_append f g)
