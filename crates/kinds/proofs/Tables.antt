@@ -1,11 +1,13 @@
 -- Facts about the lanes of a table.
 use Rattle.std.specs.Prelude.{◌≡◌, ℕ, ◌+◌, ◌<◌, ◌≤◌, true, List, [], ◌∷◌, ◌++◌, length, take, replicate, slice_index_or, slice_set, All}
 use Rattle.std.proofs.Common.{sym, refl, ap, ◌∙◌, arith}
-use Rattle.std.proofs.lemmas.List.{get_or_default, length-take-le, replicate_more, take-append-le, take_more_set}
+use Rattle.std.proofs.lemmas.List.Elements.{All-push, All-take}
+use Rattle.std.proofs.lemmas.List.{get_or_default, length-take, length-take-le, length_push, replicate_more, take-append-le, take_more_set}
 use Rattle.arrayvec.specs.ArrayVec.{array_vec_len}
-use Rattle.bank.specs.Model.{lane_of, max_depth}
+use Rattle.bank.specs.Model.{lane_of, max_depth, max_lanes}
 use Rattle.bank.specs.Orders.{proper}
 use Rattle.bank.specs.Rules.{every_held}
+use Rattle.kinds.specs.Tables.{IsTable}
 use Rattle.kinds.specs.declared.table.Table.{Table}
 
 pub length_used : {A : Type 0} (n : ℕ) (ls : List A) → n ≤ length ls → length (take n ls) ≡ n
@@ -44,3 +46,29 @@ all_always P f xs = λ k d h. f _
 -- what holds of every list of orders that a lane may hold holds of what a table holds
 pub held_all : (P : List ℕ → Type 0) → ((xs : List ℕ) → proper xs ≡ true → length xs ≤ max_depth → P xs) → (t : Table) → All P t.lanes.items
 held_all P f t = λ k d h. f _ ((t.sound every_held).proper k d h) ((t.sound every_held).short k d h)
+
+-- the first lanes of a table are a table, if there is one
+pub table_first : (n : ℕ) (held : List (List ℕ)) → 1 ≤ n → IsTable held → IsTable (take n held)
+table_first n held some t = λ rule.
+    let s = t rule in
+    record {
+      some = omega (arith, s.some, length-take n held);
+      few = omega (arith, s.few, length-take n held);
+      low = s.low;
+      high = s.high;
+      proper = All-take (λ xs. proper xs ≡ true) n held s.proper;
+      short = All-take (λ xs. length xs ≤ max_depth) n held s.short;
+    }
+
+-- an empty lane more is a table too, if there may be one more
+pub table_more : (held : List (List ℕ)) → length held < max_lanes → IsTable held → IsTable (held ++ [] ∷ [])
+table_more held room t = λ rule.
+    let s = t rule in
+    record {
+      some = omega (arith, length_push held []);
+      few = omega (arith, length_push held []);
+      low = s.low;
+      high = s.high;
+      proper = All-push (λ xs. proper xs ≡ true) held [] s.proper refl;
+      short = All-push (λ xs. length xs ≤ max_depth) held [] s.short (omega arith);
+    }

@@ -79,7 +79,8 @@ impl<K: Kind> ArrayBank<K> {
         if lanes < 1 || lanes > limits::MAX_LANES {
             return Err(BankFault::Lanes);
         }
-        self.table = Table::empty(lanes);
+        self.table.set_count(lanes);
+        self.clear();
         Ok(())
     }
 }

@@ -42,4 +42,11 @@ impl Lane {
     {
         self.held.retain(|held| *held != order);
     }
+
+    /// Takes every order out.
+    pub(crate) fn clear(&mut self)
+        ensures { self.new ≡ [] }
+    {
+        self.held.clear();
+    }
 }

@@ -18,6 +18,15 @@ pub(crate) struct Table {
     ghost sound: { IsTable lanes.items },
 }
 
+/// Empties lanes.
+fn empty_all(lanes: &mut [Lane])
+    ensures { lanes.new ≡ none_held lanes.old }
+{
+    for lane in lanes {
+        lane.clear();
+    }
+}
+
 impl Table {
     /// So many empty lanes.
     pub(crate) fn empty(count: usize) -> Table
@@ -90,6 +99,18 @@ impl Table {
     pub(crate) fn clear(&mut self)
         ensures { self.new.lanes.items ≡ none_held self.old.lanes.items }
     {
-        *self = Table::empty(self.count());
+        empty_all(self.lanes.as_mut_slice());
+    }
+
+    /// Sets how many lanes there are: the last ones go, or empty ones come.
+    pub(crate) fn set_count(&mut self, count: usize)
+        requires some { 1 ≤ count }
+        requires few { count ≤ max_lanes }
+        ensures { length self.new.lanes.items ≡ count }
+    {
+        self.lanes.truncate(count);
+        for _ in self.lanes.len()..count {
+            self.lanes.push(Lane::default());
+        }
     }
 }
