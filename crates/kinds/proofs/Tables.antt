@@ -1,8 +1,8 @@
 -- Facts about the lanes of a table.
 use Rattle.std.specs.Prelude.{◌≡◌, ℕ, ◌+◌, ◌<◌, ◌≤◌, true, List, [], ◌∷◌, ◌++◌, length, take, replicate, slice_index_or, slice_set, All}
 use Rattle.std.proofs.Common.{sym, refl, ap, ◌∙◌, arith}
-use Rattle.std.proofs.lemmas.List.Elements.{All-push, All-take}
-use Rattle.std.proofs.lemmas.List.{get_or_default, length-take, length-take-le, length_push, replicate_more, take-append-le, take_more_set}
+use Rattle.std.proofs.lemmas.List.Elements.{All-push, All-set, All-take}
+use Rattle.std.proofs.lemmas.List.{get_or_default, length-take, length-take-le, length_push, length-set, replicate_more, take-append-le, take_more_set}
 use Rattle.arrayvec.specs.ArrayVec.{array_vec_len}
 use Rattle.bank.specs.Model.{lane_of, max_depth, max_lanes}
 use Rattle.bank.specs.Orders.{proper}
@@ -71,4 +71,17 @@ table_more held room t = λ rule.
       high = s.high;
       proper = All-push (λ xs. proper xs ≡ true) held [] s.proper refl;
       short = All-push (λ xs. length xs ≤ max_depth) held [] s.short (omega arith);
+    }
+
+-- a table stays a table when one of its lanes is emptied
+pub table_emptied : (held : List (List ℕ)) (i : ℕ) → IsTable held → IsTable (slice_set held i [])
+table_emptied held i t = λ rule.
+    let s = t rule in
+    record {
+      some = omega (arith, length-set held i [], s.some);
+      few = omega (arith, length-set held i [], s.few);
+      low = s.low;
+      high = s.high;
+      proper = All-set (λ xs. proper xs ≡ true) held i [] refl s.proper;
+      short = All-set (λ xs. length xs ≤ max_depth) held i [] (omega arith) s.short;
     }

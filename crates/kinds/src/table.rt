@@ -18,15 +18,6 @@ pub(crate) struct Table {
     ghost sound: { IsTable lanes.items },
 }
 
-/// Empties lanes.
-fn empty_all(lanes: &mut [Lane])
-    ensures { lanes.new ≡ none_held lanes.old }
-{
-    for lane in lanes {
-        lane.clear();
-    }
-}
-
 impl Table {
     /// So many empty lanes.
     pub(crate) fn empty(count: usize) -> Table
@@ -99,7 +90,10 @@ impl Table {
     pub(crate) fn clear(&mut self)
         ensures { self.new.lanes.items ≡ none_held self.old.lanes.items }
     {
-        empty_all(self.lanes.as_mut_slice());
+        let count = self.count();
+        for lane in 0..count {
+            self.lanes[lane].clear();
+        }
     }
 
     /// Sets how many lanes there are: the last ones go, or empty ones come.
