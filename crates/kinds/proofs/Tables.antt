@@ -1,11 +1,14 @@
 -- Facts about the lanes of a table.
 use Rattle.std.specs.Prelude.{◌≡◌, ℕ, ◌+◌, ◌<◌, ◌≤◌, true, List, [], ◌∷◌, ◌++◌, length, take, replicate, slice_index_or, slice_set, All}
-use Rattle.std.proofs.Common.{sym, refl, ap, ◌∙◌, arith}
+use Rattle.std.specs.List.{position, position_or_len, remove}
+use Rattle.std.proofs.Common.{suc, Some, None, Bool, false, not, cond, eqb, sym, refl, ap, ◌∙◌, arith}
 use Rattle.std.proofs.lemmas.List.Elements.{All-push, All-set, All-take}
 use Rattle.std.proofs.lemmas.List.{get_or_default, length-take, length-take-le, length_push, length-set, replicate_more, take-append-le, take_more_set}
+use Rattle.std.proofs.lemmas.Grind.{common_steps}
 use Rattle.arrayvec.specs.ArrayVec.{array_vec_len}
 use Rattle.bank.specs.Model.{lane_of, max_depth, max_lanes}
-use Rattle.bank.specs.Orders.{proper}
+use Rattle.bank.specs.Orders.{proper, without}
+use Rattle.bank.proofs.Orders.{without_none}
 use Rattle.bank.specs.Rules.{every_held}
 use Rattle.kinds.specs.Tables.{IsTable}
 use Rattle.kinds.specs.declared.table.Table.{Table}
@@ -85,3 +88,21 @@ table_emptied held i t = λ rule.
       proper = All-set (λ xs. proper xs ≡ true) held i [] refl s.proper;
       short = All-set (λ xs. length xs ≤ max_depth) held i [] (omega arith) s.short;
     }
+
+suc_first : (n : ℕ) → 1 + n ≡ suc n
+suc_first n = omega arith
+
+remove_first : (b : Bool) (x : ℕ) (xs : List ℕ) (n : ℕ) → remove (x ∷ xs) (cond b (1 + n) 0) ≡ cond b (x ∷ remove xs n) xs
+remove_first true x xs n = ap (λ k. remove (x ∷ xs) k) (suc_first n)
+remove_first false x xs n = refl
+
+-- of a list without repeats, taking out what stands where an order does, if anywhere, takes out that order
+pub remove_without : (xs : List ℕ) (x : ℕ) → proper xs ≡ true → remove xs (position_or_len (λ y. eqb y x) xs) ≡ without xs x
+remove_without [] x p = refl
+remove_without (z ∷ zs) x p = remove_first (not (eqb z x)) z zs (position_or_len (λ y. eqb y x) zs) ∙ grind (arith, without_none zs x, remove_without zs x)
+
+pub remove_at : (xs : List ℕ) (x i : ℕ) → proper xs ≡ true → position (λ y. eqb y x) xs ≡ Some i → remove xs i ≡ without xs x
+remove_at xs x i p e = grind (arith, remove_without xs x)
+
+pub without_nowhere : (xs : List ℕ) (x : ℕ) → proper xs ≡ true → position (λ y. eqb y x) xs ≡ None → without xs x ≡ xs
+without_nowhere xs x p e = grind (arith, common_steps, remove_without xs x)

@@ -1,7 +1,8 @@
-ghost use Rattle.std.specs.Prelude.{◌≡◌, ◌<◌, [], ◌∷◌, ◌++◌, length};
+ghost use Rattle.std.specs.Prelude.{◌≡◌, ◌<◌, true, [], ◌∷◌, ◌++◌, length};
 ghost use Rattle.bank.specs.Model.{max_depth};
-ghost use Rattle.bank.specs.Orders.{without};
+ghost use Rattle.bank.specs.Orders.{proper, without};
 
+use crate::orders::place_of;
 use arrayvec::ArrayVec;
 use bank::limits::MAX_DEPTH;
 use std::marker::Model;
@@ -38,9 +39,12 @@ impl Lane {
 
     /// Takes an order out, if the lane holds it; the others keep their sequence.
     pub(crate) fn remove(&mut self, order: u16)
+        requires { proper self.old ≡ true }
         ensures { self.new ≡ without self.old order }
     {
-        self.held.retain(|held| *held != order);
+        if let Some(place) = place_of(self.orders(), order) {
+            self.held.remove(place);
+        }
     }
 
     /// Takes every order out.
