@@ -2,11 +2,11 @@
 use Rattle.std.specs.Prelude.{◌≡◌, ℕ, ◌+◌, ◌<◌, ◌≤◌, true, List, [], ◌∷◌, ◌++◌, length, take, replicate, slice_index_or, slice_set, All}
 use Rattle.std.specs.List.{position, position_or_len, remove}
 use Rattle.std.proofs.Common.{suc, Some, None, Bool, false, not, cond, eqb, sym, refl, ap, ◌∙◌, arith}
-use Rattle.std.proofs.lemmas.List.Elements.{All-push, All-set, All-take}
-use Rattle.std.proofs.lemmas.List.{get_or_default, length-take, length-take-le, length_push, length-set, replicate_more, take-append-le, take_more_set}
+use Rattle.std.proofs.lemmas.List.Elements.{All-set, All-take}
+use Rattle.std.proofs.lemmas.List.{get_or_default, length-take, length-take-le, length-set, replicate_more, take-append-le, take_more_set}
 use Rattle.std.proofs.lemmas.Grind.{common_steps}
 use Rattle.arrayvec.specs.ArrayVec.{array_vec_len}
-use Rattle.bank.specs.Model.{lane_of, max_depth, max_lanes}
+use Rattle.bank.specs.Model.{lane_of, max_depth}
 use Rattle.bank.specs.Orders.{proper, without}
 use Rattle.bank.proofs.Orders.{without_none}
 use Rattle.bank.specs.Rules.{every_held}
@@ -61,19 +61,6 @@ table_first n held some t = λ rule.
       high = s.high;
       proper = All-take (λ xs. proper xs ≡ true) n held s.proper;
       short = All-take (λ xs. length xs ≤ max_depth) n held s.short;
-    }
-
--- an empty lane more is a table too, if there may be one more
-pub table_more : (held : List (List ℕ)) → length held < max_lanes → IsTable held → IsTable (held ++ [] ∷ [])
-table_more held room t = λ rule.
-    let s = t rule in
-    record {
-      some = omega (arith, length_push held []);
-      few = omega (arith, length_push held []);
-      low = s.low;
-      high = s.high;
-      proper = All-push (λ xs. proper xs ≡ true) held [] s.proper refl;
-      short = All-push (λ xs. length xs ≤ max_depth) held [] s.short (omega arith);
     }
 
 -- a table stays a table when one of its lanes is emptied

@@ -79,8 +79,7 @@ impl<K: Kind> ArrayBank<K> {
         if lanes < 1 || lanes > limits::MAX_LANES {
             return Err(BankFault::Lanes);
         }
-        self.table.set_count(lanes);
-        self.clear();
+        self.table.narrow(lanes);
         Ok(())
     }
 }

@@ -1,4 +1,4 @@
-ghost use Rattle.std.specs.Prelude.{◌≡◌, ◌<◌, true, [], ◌∷◌, ◌++◌, length};
+ghost use Rattle.std.specs.Prelude.{◌≡◌, ◌<◌, ◌≤◌, true, [], ◌∷◌, ◌++◌, length};
 ghost use Rattle.bank.specs.Model.{max_depth};
 ghost use Rattle.bank.specs.Orders.{proper, without};
 
@@ -24,7 +24,8 @@ impl Model for Lane {
 impl Lane {
     /// The orders that the lane holds, from oldest to newest.
     pub(crate) fn orders(&self) -> &[u16]
-        ensures { result.now ≡ self.now }
+        ensures value { result.now ≡ self.now }
+        ensures short { length result.now ≤ max_depth }
     {
         self.held.as_slice()
     }

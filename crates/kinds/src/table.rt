@@ -96,14 +96,15 @@ impl Table {
         }
     }
 
-    /// Sets how many lanes there are: the last ones go, or empty ones come.
-    pub(crate) fn set_count(&mut self, count: usize)
+    /// Leaves so many lanes, all empty.
+    pub(crate) fn narrow(&mut self, count: usize)
         requires some { 1 ≤ count }
         requires few { count ≤ max_lanes }
-        ensures { length self.new.lanes.items ≡ count }
+        ensures { self.new.lanes.items ≡ replicate count [] }
     {
         self.lanes.truncate(count);
-        for _ in self.lanes.len()..count {
+        self.clear();
+        for _ in self.count()..count {
             self.lanes.push(Lane::default());
         }
     }

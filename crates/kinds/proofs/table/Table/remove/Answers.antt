@@ -5,7 +5,6 @@ use Rattle.std.proofs.lemmas.Grind.{common_steps}
 use Rattle.bank.specs.Model.{taken_out}
 use Rattle.bank.specs.Rules.{every_held}
 use Rattle.bank.proofs.Models.{lane_proper, sound_out}
-use Rattle.kinds.specs.Tables.{deepest}
 use Rattle.kinds.proofs.table.Table.remove.Goals as goal
 
 pub remove-requires : goal.remove-requires
