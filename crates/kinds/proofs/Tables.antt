@@ -11,6 +11,7 @@ use Rattle.bank.specs.Orders.{proper, without}
 use Rattle.bank.proofs.Orders.{without_none}
 use Rattle.bank.specs.Rules.{every_held}
 use Rattle.kinds.specs.Tables.{IsTable}
+use Rattle.kinds.specs.declared.lane.Lane.TheInside.{Inside}
 use Rattle.kinds.specs.declared.table.Table.{Table}
 
 pub length_used : {A : Type 0} (n : ℕ) (ls : List A) → n ≤ length ls → length (take n ls) ≡ n
@@ -19,8 +20,12 @@ length_used n ls h = length-take-le n ls h
 pub length_held : (t : Table) → length t.lanes.items ≡ array_vec_len t.lanes
 length_held t = refl
 
-pub orders_short : (t : Table) → All (λ xs. length xs ≤ max_depth) t.lanes.items
-orders_short t = (t.sound every_held).short
+-- no lane holds more than its depth
+pub orders_short : (lane : Inside) → length lane.held.items ≤ max_depth
+orders_short lane = lane.short
+
+pub lanes_short : (t : Table) → All (λ xs. length xs ≤ max_depth) t.lanes.items
+lanes_short t = (t.sound every_held).short
 
 -- what lane i holds; d stands for it past the end
 pub held_at : (t : Table) (i : ℕ) (d : List ℕ) → i < length t.lanes.items → lane_of t.lanes.items i ≡ slice_index_or t.lanes.items i d

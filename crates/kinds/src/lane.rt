@@ -8,9 +8,10 @@ use bank::limits::MAX_DEPTH;
 use std::marker::Model;
 
 /// One lane: the orders that it holds, from oldest to newest.
-#[derive(Default, Drop)]
+#[derive(Drop)]
 pub(crate) struct Lane {
     held: ArrayVec<u16, MAX_DEPTH>,
+    ghost short: { length held.items ≤ max_depth },
 }
 
 impl Model for Lane {
@@ -19,6 +20,16 @@ impl Model for Lane {
     ghost Value = { List ℕ };
 
     ghost view = { λ lane. lane.held.items };
+}
+
+impl Default for Lane {
+    ghost is_default = { λ lane. lane ≡ [] };
+
+    fn default() -> Lane {
+        Lane {
+            held: ArrayVec::new(),
+        }
+    }
 }
 
 impl Lane {
