@@ -79,7 +79,7 @@ impl<K: Kind> ArrayBank<K> {
         if lanes < 1 || lanes > limits::MAX_LANES {
             return Err(BankFault::Lanes);
         }
-        self.table = Table::empty(lanes);
+        self.table.narrow(lanes);
         Ok(())
     }
 }

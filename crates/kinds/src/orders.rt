@@ -2,13 +2,21 @@
 ghost use Rattle.bank.specs.Orders.{holds as is_held};
 ghost use Rattle.bank.specs.Rules.{newest_of, oldest_of, only_newest, only_oldest};
 ghost use Rattle.kinds.specs.Picks.{Picks};
-ghost use Rattle.std.specs.Prelude.{◌≡◌};
+ghost use Rattle.std.specs.List.{position};
+ghost use Rattle.std.specs.Prelude.{◌≡◌, ◌==◌};
 
 /// Whether an order is held.
 pub(crate) fn holds(held: &[u16], order: u16) -> bool
     ensures { result ≡ is_held held.now order }
 {
     held.contains(&order)
+}
+
+/// Where an order stands, if it is held.
+pub(crate) fn place_of(held: &[u16], order: u16) -> Option<usize>
+    ensures { result ≡ position (λ held. held == order) held.now }
+{
+    held.iter().position(|other| *other == order)
 }
 
 /// The oldest order.

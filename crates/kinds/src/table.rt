@@ -90,6 +90,22 @@ impl Table {
     pub(crate) fn clear(&mut self)
         ensures { self.new.lanes.items ≡ none_held self.old.lanes.items }
     {
-        *self = Table::empty(self.count());
+        let count = self.count();
+        for lane in 0..count {
+            self.lanes[lane].clear();
+        }
+    }
+
+    /// Leaves so many lanes, all empty.
+    pub(crate) fn narrow(&mut self, count: usize)
+        requires some { 1 ≤ count }
+        requires few { count ≤ max_lanes }
+        ensures { self.new.lanes.items ≡ replicate count [] }
+    {
+        self.lanes.truncate(count);
+        self.clear();
+        for _ in self.count()..count {
+            self.lanes.push(Lane::default());
+        }
     }
 }

@@ -1,8 +1,15 @@
--- Taken out, the check leaves this goal open.
-use Rattle.std.proofs.Common.{rules}
-use Rattle.arrayvec.proofs.ArrayVecLemmas.{filter-from_retain}
+-- Taken out, the check leaves these goals open.
+use Rattle.std.proofs.Common.{sym, ◌∙◌}
+use Rattle.kinds.proofs.Tables.{remove_at, without_nowhere}
 use Rattle.kinds.proofs.lane.Lane.remove.Goals as goal
 
-pub returns : goal.returns
-returns c =
-    rw (← c.self.view_is) (filter-from_retain _ _ _ (λ x b f' y called. search rules) _ _ c.retain.ensures.filtered)
+pub returns-in-Some : goal.returns-in-Some
+returns-in-Some c =
+    let at = rw c.orders.ensures.value at c.place_of.ensures in
+    let items = rw c.self.view_is at c.remove.ensures.items in
+    items ∙ remove_at _ c.args.order c.in-Some.place c.requires (sym at ∙ c.in-Some.is)
+
+pub returns-in_default : goal.returns-in_default
+returns-in_default c =
+    let at = rw c.orders.ensures.value at c.place_of.ensures in
+    sym (without_nowhere _ c.args.order c.requires (sym at ∙ c.in_default.is))
