@@ -91,6 +91,7 @@ impl Table {
         ensures { self.new.lanes.items ≡ none_held self.old.lanes.items }
     {
         let count = self.count();
+        // By number: so what a table keeps is shown anew after each lane.
         for lane in 0..count {
             self.lanes[lane].clear();
         }
