@@ -82,7 +82,7 @@ pub length_without : (xs : List ℕ) (x : ℕ) → proper xs ≡ true → holds 
 length_without [] x p h = absurd (false≢true h)
 length_without (z ∷ zs) x p h = grind (arith, without_none zs x, length_without zs x)
 
--- ---- steps that no proof here takes any more; PORT.md names them
+-- ---- steps that no proof here takes any more; docs/PORT.md names them
 
 eqb_sym : (a b : ℕ) → eqb a b ≡ false → eqb b a ≡ false
 eqb_sym a b e = grind (arith, e)

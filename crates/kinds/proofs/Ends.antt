@@ -36,7 +36,7 @@ pub picks_newest : (xs : List ℕ) → Picks only_newest xs (newest_of xs)
 picks_newest [] = refl
 picks_newest (x ∷ xs) = let r = newest_held x xs in rw r.1 (picks_that (x ∷ xs) (Some r.0) r.2)
 
--- ---- steps that no proof here takes any more; PORT.md names them
+-- ---- steps that no proof here takes any more; docs/PORT.md names them
 
 -- what a read at place i of a list gives, where it has any
 abbrev Read : List ℕ → ℕ → Option (Bor ℕ) → Type 0

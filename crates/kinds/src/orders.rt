@@ -14,7 +14,7 @@ pub(crate) fn holds(held: &[u16], order: u16) -> bool
 
 /// Where an order stands, if it is held.
 pub(crate) fn place_of(held: &[u16], order: u16) -> Option<usize>
-    ensures { result ≡ position (λ held. held == order) held.now }
+    ensures { result ≡ position (λ other. other == order) held.now }
 {
     held.iter().position(|other| *other == order)
 }

@@ -24,7 +24,7 @@ pub field_within : (bs : List ℕ) (p w lo hi v q : ℕ) → field_at bs p w lo 
 unfolding field_at ranged
 field_within bs p w lo hi v q h = grind (arith, nat_tests)
 
--- ---- steps that no proof here takes any more; PORT.md names them
+-- ---- steps that no proof here takes any more; docs/PORT.md names them
 
 module _ (bs : List ℕ) (p w lo hi : ℕ) where
   -- past the end

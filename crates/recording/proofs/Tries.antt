@@ -149,7 +149,7 @@ unfolding try_all
 first_out [] t h = absurd (not_both tt t h)
 first_out (x ∷ ts) t h = first_by x ts t (ranged x.bit x.bounds.low x.bounds.high x.value) refl h (first_out ts t)
 
--- ---- steps that no proof here takes any more; PORT.md names them
+-- ---- steps that no proof here takes any more; docs/PORT.md names them
 
 -- the entries of the line-ups to come
 module _ (ns : List ℕ) (i : ℕ) where

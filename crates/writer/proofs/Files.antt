@@ -125,7 +125,7 @@ front_written r n old bs o s m f h =
       rest = drop_at bs (drop n old) n k;
     }
 
--- ---- steps that no proof here takes any more; PORT.md names them
+-- ---- steps that no proof here takes any more; docs/PORT.md names them, but for ready_filling_of
 
 order_fits : (e : Event) (b : Bool) → e.order ≤ max_order → AllByRecursion Fits (cond b (bits 12 e.order ∷ []) [])
 order_fits e true o = (omega arith, tt)

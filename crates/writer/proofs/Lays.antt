@@ -129,7 +129,7 @@ filling_more {a} {b} {c} l h w =
     let g : gap b.place ≡ suc (gap c.place) = omega arith in
     left_more (rw g at l) w
 
--- ---- steps that no proof here takes any more; PORT.md names them
+-- ---- steps that no proof here takes any more; docs/PORT.md names them, but for lineups_whole
 
 -- one field, set to a value that fits it
 pub wrote_set : {a b : BitWriter} (w v : ℕ) → b.bytes.ghost_name ≡ a.bytes.ghost_name → v < 2 ^ w → b.place ≡ a.place + w → Overwritten a.bytes.now b.bytes.now a.place w (v % 2 ^ w)
